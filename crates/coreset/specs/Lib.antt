@@ -1,0 +1,4 @@
+pub mod Set
+pub mod Bits
+pub mod Laws
+pub mod Counting
