@@ -1,0 +1,52 @@
+-- Serving owing cores ends: 32 cores, each at most three times, are at most 96 services.
+use Prim.Native.Nat.{ℕ, zero, suc, _+_, _*_, _<_, _≤_}
+use mathlib.Core.Path.{_≡_, refl}
+use mathlib.Core.List.{List, _∷_}
+use native.Mathlib.Decide.{ℕ-discrete}
+use native.Mathlib.Omega.{arith}
+use borrow.Author.Tests.{eq-eqb, ne-eqb}
+use lib.ListN.{length}
+use Rattle.lock.specs.declared.Lock.{Lock}
+use Rattle.lock.specs.World.{World}
+use Rattle.lock.specs.Good.{Good}
+use Rattle.lock.specs.Thrice.{Run, done, then, times, thrice}
+
+-- how often the numbers below k stand in the list
+total : ℕ → List ℕ → ℕ
+total zero cs = 0
+total (suc k) cs = times k cs + total k cs
+
+times-here : (c : ℕ) (cs : List ℕ) → times c (c ∷ cs) ≡ suc (times c cs)
+unfolding times
+times-here c cs = rw (eq-eqb c c refl)
+
+times-away : (d c : ℕ) (cs : List ℕ) → (d ≡ c → ⊥) → times d (c ∷ cs) ≡ times d cs
+unfolding times
+times-away d c cs ne = rw (ne-eqb d c ne)
+
+total-past : (k c : ℕ) (cs : List ℕ) → k ≤ c → total k (c ∷ cs) ≡ total k cs
+unfolding total
+total-past zero c cs h = refl
+total-past (suc k) c cs h = let i = total-past k c cs (omega arith) in let t = times-away k c cs (omega arith) in omega arith
+
+total-one : (k c : ℕ) (cs : List ℕ) → c < k → total k (c ∷ cs) ≡ suc (total k cs)
+unfolding total
+total-one zero c cs h = absurd (omega arith)
+total-one (suc k) c cs h = go (ℕ-discrete k c) (total-one k c cs)
+  where
+    go : Dec (k ≡ c) → (c < k → total k (c ∷ cs) ≡ suc (total k cs)) → times k (c ∷ cs) + total k (c ∷ cs) ≡ suc (times k cs + total k cs)
+    go (yes e) f = let i = total-past k c cs (omega arith) in let t : times k (c ∷ cs) ≡ suc (times k cs) = rw e (times-here c cs) in omega arith
+    go (no e) f = let i = f (omega arith) in let t = times-away k c cs e in omega arith
+
+total-le : (k : ℕ) (cs : List ℕ) → ((d : ℕ) → times d cs ≤ 3) → total k cs ≤ 3 * k
+unfolding total
+total-le zero cs h = omega arith
+total-le (suc k) cs h = let i = total-le k cs h in let t = h k in omega arith
+
+-- each service is of one of the 32 cores
+length-total : (W : World) {l r : Lock} {cs : List ℕ} → Run W l cs r → length cs ≤ total 32 cs
+length-total W done = omega arith
+length-total W (then {c = c} {cs = cs} h o s) = let i = length-total W s in let t = total-one 32 c cs h in omega arith
+
+pub ends : (W : World) {l r : Lock} {cs : List ℕ} → Good W l → Run W l cs r → length cs ≤ 96
+ends W {cs = cs} G s = let i = length-total W s in let t = total-le 32 cs (thrice W G s) in omega arith

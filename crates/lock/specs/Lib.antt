@@ -1,0 +1,16 @@
+pub mod Logic
+pub mod Serve
+pub mod Cases
+pub mod Held
+pub mod World
+pub mod Good
+pub mod Kept
+pub mod Events
+pub mod Rest
+pub mod Shape
+pub mod Steps
+pub mod Occupants
+pub mod Rank
+pub mod Falls
+pub mod Thrice
+pub mod Ends

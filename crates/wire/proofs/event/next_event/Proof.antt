@@ -1,0 +1,55 @@
+-- `wire::event::next_event` meets its contract: the record question says which case holds, and the payload is the record's.
+use mathlib.Core.Path.{_≡_, sym, ap, ap₂, _∙_}
+use mathlib.Core.List.{List}
+use Prim.Native.Nat.{ℕ}
+use denote.Ref.{now}
+use Rattle.wire.specs.declared.record.Seen.{Seen}
+use Rattle.wire.specs.declared.kinds.Stream.the-variants as stream
+use Rattle.wire.specs.Record.{payloadAt}
+use Rattle.wire.specs.Event.{eventOf, eventSeen, nextEvent}
+use Rattle.wire.specs.declared.event.Event.{Event}
+use Rattle.wire.specs.declared.event.NextEvent.the-variants as found
+use borrow.Author.Needs.{needs}
+use Rattle.wire.proofs.event.next_event.Statement.{statement}
+use Rattle.wire.proofs.event.next_event.Tie as tie
+
+record-at-requires : tie.Need-record-at-requires
+record-at-requires c κs = search needs
+
+enum-known-kind : tie.Need-enum-known-kind
+enum-known-kind c = search needs
+
+payload-at-requires : tie.Need-payload-at-requires
+payload-at-requires c κs = search needs
+
+event-of-requires : tie.Need-event-of-requires
+event-of-requires c κs = search needs
+
+enum-known-refusal : tie.Need-enum-known-refusal
+enum-known-refusal c = search needs
+
+returns : tie.Need-returns
+unfolding nextEvent
+returns c =
+    let s = now (c .before .before .before .before .before .before .before .args .s) in
+    let k = c .before .before .before .kind .given in
+    ap (λ (e : Event). found.Event e (k .0 .1 .0)) (c .event-of .ensures ∙ ap (eventOf (k .0 .0)) (c .before .payload-at .ensures))
+    ∙ sym (ap (λ (r : Seen). eventSeen r (payloadAt stream.Events s 0)) (sym (c .before .before .before .before .before .record-at .ensures) ∙ k .1))
+
+returns-2 : tie.Need-returns-2
+unfolding nextEvent
+returns-2 c =
+    let s = now (c .before .before .before .before .before .args .s) in
+    sym (ap (λ (r : Seen). eventSeen r (payloadAt stream.Events s 0)) (sym (c .before .before .before .record-at .ensures) ∙ c .before .refusal .given .1))
+
+pub next-event-spec : {M : Type 1} → statement M
+next-event-spec =
+    tie.close
+    (tie.spec
+    record-at-requires
+    enum-known-kind
+    payload-at-requires
+    event-of-requires
+    enum-known-refusal
+    returns
+    returns-2)

@@ -1,0 +1,9 @@
+pub mod Kinds
+pub mod Number
+pub mod Refusal
+pub mod Record
+pub mod RecordLaws
+pub mod Event
+pub mod Table
+pub mod Answer
+pub mod Promise
