@@ -19,7 +19,9 @@ abbrev μ-loop : tie.MeasureT-loop
 
 returns : tie.Need-returns Inv-loop μ-loop
 unfolding putOver answerBytes writtenIn
-returns c = (simp (lt-leb _ _ (c .if1 .taken)), simp (lt-leb _ _ (c .if1 .taken)))
+returns c =
+    let h : length (now (c .before .before .args .out)) < 18 = omega arith in
+    (simp (lt-leb _ _ h), simp (lt-leb _ _ h))
 
 answer-bytes-requires : tie.Need-answer-bytes-requires Inv-loop μ-loop
 answer-bytes-requires c κs = search needs
