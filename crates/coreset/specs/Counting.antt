@@ -12,7 +12,7 @@ use lib.Pow.{pow-pos}
 use borrow.Author.Tests.{eq-eqb, ne-eqb}
 use Rattle.coreset.specs.Set.{bit, has, put, withCore, withoutCore, count, lowest}
 use Rattle.coreset.specs.Bits.{bit-lt, put-bit, low-bits, bit-half, bit-zero, half-lt}
-use Rattle.coreset.specs.Laws.{bit-of, no-bit-of, has-empty}
+use Rattle.coreset.specs.Laws.{bit-of, no-bit-of, has-empty, lt-pow}
 
 -- ---- the count
 
@@ -116,3 +116,7 @@ unfolding lowest has
 lowest-found k m h n =
     let f = trailing-found k m h n in
     rw (ne-eqb m 0 n) (record { inside = eq-eqb _ 1 (f .0); least = λ d q. ap (λ (x : ℕ). eqb x 1) (f .1 d q) })
+
+-- a set that is not empty has a member
+pub some-core : (m : ℕ) → (m ≡ 0 → ⊥) → (d : ℕ) × (has m d ≡ true)
+some-core m n = (lowest m m, lowest-found m m (lt-pow m) n .inside)

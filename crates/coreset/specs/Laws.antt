@@ -1,13 +1,13 @@
 -- The laws of core sets, for any number of cores: membership after set and clear, bounds, union, and that a set is what its members are.
-use Prim.Native.Nat.{ℕ, zero, suc, _+_, _*_, _^_, _≤_, _<_, min, max}
+use Prim.Native.Nat.{ℕ, zero, suc, _+_, _*_, _/_, _%_, _^_, _≤_, _<_, min, max}
 use mathlib.Core.Path.{_≡_, refl, sym, ap, _∙_, subst}
-use mathlib.Core.Bool.{Bool, true, false, _||_, _&&_}
-use native.Mathlib.Nat.{lt-of-lt-of-le, pow-suc, zero-div, zero-mod, zero-mul}
+use mathlib.Core.Bool.{Bool, true, false, _||_, _&&_, or-true}
+use native.Mathlib.Nat.{lt-of-lt-of-le, pow-suc, zero-div, zero-mod, zero-mul, div-lt-iff-lt-mul}
 use native.Mathlib.Decide.{decLt}
 use native.Mathlib.Omega.{arith}
 use lib.Bits.{bitOr, bitAnd}
 use lib.Dec.{T, eqb}
-use lib.Pow.{pow-mono, pow-pos}
+use lib.Pow.{pow-mono, pow-pos, shr-shr}
 use borrow.Author.Tests.{eq-eqb, eqb-true, eqb-false, lt-ltb, le-ltb}
 use Rattle.coreset.specs.Set.{bit, has, put, withCore, withoutCore, withinWidth}
 use Rattle.coreset.specs.Bits.{bit-lt, bit-put-same, bit-put-other, put-bit, put-lt, bit-beyond, bits-ext, bit-or, bit-and}
@@ -125,7 +125,7 @@ has-and a b d = ap (λ (x : ℕ). eqb x 1) (bit-and a b d) ∙ and-test (bit a d
 
 -- ---- extensionality with no width
 
-lt-pow : (m : ℕ) → m < 2 ^ m
+pub lt-pow : (m : ℕ) → m < 2 ^ m
 lt-pow zero = omega arith
 lt-pow (suc m) = let e : 2 ^ suc m ≡ 2 ^ m * 2 = pow-suc 2 m in let h : m < 2 ^ m = lt-pow m in omega arith
 
@@ -139,6 +139,18 @@ empty-ext m h = ext m 0 (λ d. h d ∙ sym (has-empty d))
 -- k cores, none of them in the set
 pub empty-below : (k m : ℕ) → m < 2 ^ k → ((d : ℕ) → d < k → has m d ≡ false) → m ≡ 0
 empty-below k m l h = set-ext k m 0 l (pow-pos k) (λ d q. h d q ∙ sym (has-empty d))
+
+-- a set whose members are all below k is a set of k cores: nothing stands above them
+pub all-below : (k m : ℕ) → ((d : ℕ) → has m d ≡ true → d < k) → m < 2 ^ k
+unfolding has bit
+all-below k m h =
+    let e : m / 2 ^ k ≡ 0 = empty-ext (m / 2 ^ k) (λ d. ap (λ (x : ℕ). eqb (x % 2) 1) (shr-shr m k d) ∙ go d (has m (k + d)) refl) in
+    let l : m < 1 * 2 ^ k = div-lt-iff-lt-mul (pow-pos k) .0 (omega arith) in
+    omega arith
+  where
+    go : (d : ℕ) (x : Bool) → has m (k + d) ≡ x → x ≡ false
+    go d true e = let l = h (k + d) e in absurd (omega arith)
+    go d false e = refl
 
 or-false : (x y : Bool) → (x || y) ≡ false → (x ≡ false) × (y ≡ false)
 or-false true y e = absurd (subst T e tt)
@@ -175,3 +187,17 @@ or-second false y e p = e
 
 pub or-other : (a b d : ℕ) → has (bitOr a b) d ≡ true → has a d ≡ false → has b d ≡ true
 or-other a b d e p = or-second (has a d) (has b d) (sym (has-or a b d) ∙ e) p
+
+-- what is in the one or the other, and what is in either
+pub or-either : {A : Type 0} (a b d : ℕ) → has (bitOr a b) d ≡ true → (has a d ≡ true → A) → (has b d ≡ true → A) → A
+or-either {A} a b d h f g = go (has a d) refl
+  where
+    go : (x : Bool) → has a d ≡ x → A
+    go true e = f e
+    go false e = g (or-other a b d h e)
+
+pub or-left : (a b d : ℕ) → has a d ≡ true → has (bitOr a b) d ≡ true
+or-left a b d h = has-or a b d ∙ ap (λ (x : Bool). x || has b d) h
+
+pub or-right : (a b d : ℕ) → has b d ≡ true → has (bitOr a b) d ≡ true
+or-right a b d h = has-or a b d ∙ ap (λ (x : Bool). has a d || x) h ∙ or-true (has a d)

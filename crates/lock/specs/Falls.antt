@@ -30,13 +30,17 @@ use Rattle.lock.specs.Rank.{
   takes-over,
 }
 
+-- step (c) in the world W
+abbrev StepIn : World → Lock → ℕ → Lock → Type 0
+StepIn W m c r = Step (W .first c) (firstGang W c) (W .higher (firstGang W c) (m .holder)) m c r
+
 pub record Falls (W : World) (l : Lock) (c : ℕ) (r : Lock) : Type 0 where
   pub here : rank W r c < rank W l c
   pub there : (d : ℕ) → (d ≡ c → ⊥) → rank W r d ≤ rank W l d
 
 -- ---- where a locked core owes
 
-falls-before : (W : World) (l : Lock) (c : ℕ) (m r : Lock) → has (l .owing) c ≡ true → Left l c m → Step W m c r → clear l ≡ false → Falls W l c r
+falls-before : (W : World) (l : Lock) (c : ℕ) (m r : Lock) → has (l .owing) c ≡ true → Left l c m → StepIn W m c r → clear l ≡ false → Falls W l c r
 unfolding rank
 falls-before W l c m r o a b z = record {
   here = rw (z, o) (served-before (clear r) (has (r .owing) c) (mayTake W (r .holder) c) (has (r .locked) c) (mayTake W (l .holder) c) (has (l .locked) c) (paid a b));
@@ -79,21 +83,21 @@ asym : (W : World) (g h : ℕ) → W .higher g h ≡ true → W .higher h g ≡ 
 asym W g h a = is-false _ (λ b. clash (W .strict .trans g h g a b) (W .strict .irrefl g))
 
 -- a core that comes to be locked was one that may take the lock
-locked-takes : (W : World) (l : Lock) (c : ℕ) (m r : Lock) → Left l c m → Quiet l c m → Step W m c r → has (r .locked) c ≡ true → mayTake W (l .holder) c ≡ true
+locked-takes : (W : World) (l : Lock) (c : ℕ) (m r : Lock) → Left l c m → Quiet l c m → StepIn W m c r → has (r .locked) c ≡ true → mayTake W (l .holder) c ≡ true
 locked-takes W l c m r a Q (none e) p = absurd (clash p (left-open a))
 locked-takes W l c m r a Q (took n (inl e)) p = takes-free W (l .holder) c n (sym (Q .holds) ∙ e)
 locked-takes W l c m r a Q (took n (inr e)) p =
     takes-held W (l .holder) c n (ap (λ (h : ℕ). W .higher h (firstGang W c)) (sym (Q .holds) ∙ e) ∙ W .strict .irrefl _)
 locked-takes W l c m r a Q (seized n h s) p =
     takes-held W (l .holder) c n (ap (λ (h : ℕ). W .higher h (firstGang W c)) (sym (Q .holds)) ∙ asym W _ _ s)
-locked-takes W l c m r a Q (blocked n) p = absurd (clash p (left-open a))
+locked-takes W l c m r a Q (blocked n h) p = absurd (clash p (left-open a))
 
 -- another core that is locked then was locked already
-still-locked : (W : World) (l : Lock) (c : ℕ) (m r : Lock) → Quiet l c m → Step W m c r → (d : ℕ) → (d ≡ c → ⊥) → has (r .locked) d ≡ true → has (l .locked) d ≡ true
+still-locked : (W : World) (l : Lock) (c : ℕ) (m r : Lock) → Quiet l c m → StepIn W m c r → (d : ℕ) → (d ≡ c → ⊥) → has (r .locked) d ≡ true → has (l .locked) d ≡ true
 still-locked W l c m r Q (none e) d nd p = sym (Q .locks d) ∙ p
 still-locked W l c m r Q (took n e) d nd p = sym (Q .locks d) ∙ sym (has-with-other (m .locked) c d nd) ∙ p
 still-locked W l c m r Q (seized n h s) d nd p = absurd (clash p (has-with-other 0 c d nd ∙ has-empty d))
-still-locked W l c m r Q (blocked n) d nd p = sym (Q .locks d) ∙ p
+still-locked W l c m r Q (blocked n h) d nd p = sym (Q .locks d) ∙ p
 
 -- another core that owes then, owed already and is no nearer to the lock, or was locked and is displaced for good
 abbrev Owed : World → Lock → Lock → ℕ → Type 0
@@ -101,7 +105,7 @@ Owed W l r d =
     ((has (l .owing) d ≡ true) × (mayTake W (r .holder) d ≡ true → mayTake W (l .holder) d ≡ true))
     ⊎ ((has (l .locked) d ≡ true) × (mayTake W (r .holder) d ≡ false))
 
-still-owing : (W : World) (l : Lock) (c : ℕ) (m r : Lock) → Good W l → Quiet l c m → Step W m c r → (d : ℕ) → (d ≡ c → ⊥) → has (r .owing) d ≡ true → Owed W l r d
+still-owing : (W : World) (l : Lock) (c : ℕ) (m r : Lock) → Good W l → Quiet l c m → StepIn W m c r → (d : ℕ) → (d ≡ c → ⊥) → has (r .owing) d ≡ true → Owed W l r d
 still-owing W l c m r G Q (none e) d nd p = inl (sym (Q .owes d nd) ∙ p, λ k. ap (λ (h : ℕ). mayTake W h d) (sym (Q .holds)) ∙ k)
 still-owing W l c m r G Q (took n (inl e)) d nd p =
     inl (sym (Q .owes d nd) ∙ p, λ k. takes-free W (l .holder) d (takes-ready W _ d k) (sym (Q .holds) ∙ e))
@@ -121,9 +125,9 @@ still-owing W l c m r G Q (seized n h s) d nd p = go (has (l .owing) d) refl
         let ld : has (l .locked) d ≡ true = sym (Q .locks d) ∙ or-other (m .owing) (m .locked) d p (Q .owes d nd ∙ e) in
         let gd : firstGang W d ≡ l .holder = locked-gang W (l .holder) d (has (l .locked) d) (has (l .blocked) d) (getD (l .occupant) d 255) (G .settled d e) ld in
         inr (ld, takes-not W (firstGang W c) d (W .a-gang _) (ap (W .higher (firstGang W c)) gd ∙ over))
-still-owing W l c m r G Q (blocked n) d nd p = inl (sym (Q .owes d nd) ∙ p, λ k. ap (λ (h : ℕ). mayTake W h d) (sym (Q .holds)) ∙ k)
+still-owing W l c m r G Q (blocked n h) d nd p = inl (sym (Q .owes d nd) ∙ p, λ k. ap (λ (h : ℕ). mayTake W h d) (sym (Q .holds)) ∙ k)
 
-falls-clear : (W : World) (l : Lock) (c : ℕ) (m r : Lock) → Good W l → has (l .owing) c ≡ true → Left l c m → Step W m c r → clear l ≡ true → Falls W l c r
+falls-clear : (W : World) (l : Lock) (c : ℕ) (m r : Lock) → Good W l → has (l .owing) c ≡ true → Left l c m → StepIn W m c r → clear l ≡ true → Falls W l c r
 unfolding rank
 falls-clear W l c m r G o a b z = record {
   here = rw (z, o, zr) (served-clear (has (r .owing) c) (mayTake W (r .holder) c) (has (r .locked) c) (mayTake W (l .holder) c) (has (l .locked) c) (paid a b) (locked-takes W l c m r a Q b));
@@ -151,5 +155,5 @@ falls W l c G o = go (clear l) refl
     m = leftOf (answeredOf l c) c
 
     go : (x : Bool) → clear l ≡ x → Falls W l c (admittedOf m c (W .first c) (firstGang W c) (W .higher (firstGang W c) (m .holder)))
-    go true z = falls-clear W l c m _ G o (left-way l c) (step-way W m c) z
-    go false z = falls-before W l c m _ o (left-way l c) (step-way W m c) z
+    go true z = falls-clear W l c m _ G o (left-way l c) (step-way _ _ _ m c) z
+    go false z = falls-before W l c m _ o (left-way l c) (step-way _ _ _ m c) z

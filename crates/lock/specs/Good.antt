@@ -37,7 +37,7 @@ pub record Good (W : World) (l : Lock) : Type 0 where
   pub room : length (l .occupant) ≡ 32
   pub settled : (d : ℕ) → has (l .owing) d ≡ false → Settled W l d
 
-nobody : (n d : ℕ) → _≡_ {A = ℕ} (getD (replicate n 255) d 255) 255
+pub nobody : (n d : ℕ) → _≡_ {A = ℕ} (getD (replicate n 255) d 255) 255
 nobody zero d = refl
 nobody (suc n) zero = refl
 nobody (suc n) (suc d) = nobody n d

@@ -10,6 +10,9 @@ pub mod Rest
 pub mod Shape
 pub mod Steps
 pub mod Occupants
+pub mod LockRules
+pub mod LockOk
+pub mod LockKept
 pub mod Rank
 pub mod Falls
 pub mod Thrice

@@ -1,13 +1,12 @@
 -- The shape of the rest state: where no core owes, what the lock is, part by part.
-use Prim.Native.Nat.{ℕ, zero, suc, _≤_}
+use Prim.Native.Nat.{ℕ}
 use mathlib.Core.Bool.{Bool, true, false}
 use mathlib.Core.Path.{_≡_, refl, ap, _∙_}
-use native.Mathlib.Omega.{arith}
 use lib.ListN.{getD}
 use Rattle.coreset.specs.Set.{has}
-use Rattle.coreset.specs.Laws.{empty-ext}
+use Rattle.coreset.specs.Counting.{some-core}
 use Rattle.lock.specs.declared.Lock.{Lock}
-use Rattle.lock.specs.Logic.{clash, is-false, at-or-away}
+use Rattle.lock.specs.Logic.{clash}
 use Rattle.lock.specs.World.{World, Ready, firstGang}
 use Rattle.lock.specs.Good.{Stands, locked-first, locked-gang}
 use Rattle.lock.specs.Rest.{AtRest, at-rest, free-none, none-free}
@@ -35,15 +34,6 @@ pub record Shape (W : World) (l : Lock) : Type 0 where
   pub unblocked : (d : ℕ) → (Ready W d → firstGang W d ≡ l .holder) → has (l .blocked) d ≡ false
   -- where no core has a first ready thread, the lock is free, and no core is locked or blocked
   pub free : ((d : ℕ) → W .first d ≡ 255) → (l .holder ≡ 255) × (l .locked ≡ 0) × (l .blocked ≡ 0)
-
--- a set with no core from k on that is not empty has a core in it
-some-core : (k m : ℕ) → ((d : ℕ) → k ≤ d → has m d ≡ false) → (m ≡ 0 → ⊥) → (d : ℕ) × (has m d ≡ true)
-some-core zero m h ne = absurd (ne (empty-ext m (λ d. h d (omega arith))))
-some-core (suc k) m h ne = go (has m k) refl (λ f. some-core k m f ne)
-  where
-    go : (x : Bool) → has m k ≡ x → (((d : ℕ) → k ≤ d → has m d ≡ false) → (d : ℕ) × (has m d ≡ true)) → (d : ℕ) × (has m d ≡ true)
-    go true e f = (k, e)
-    go false e f = f (at-or-away (λ (d : ℕ). k ≤ d → has m d ≡ false) k (λ i. e) (λ d nd i. h d (omega arith)))
 
 -- ---- each way that a core stands, with what is known of its first ready thread
 
@@ -83,14 +73,11 @@ module _ (W : World) (l : Lock) (R : AtRest W l) where
   -- a held lock is held for some locked core, whose first ready thread is the holder's
   holder-ready : (l .holder ≡ 255 → ⊥) → IsReady W (l .holder)
   holder-ready ne =
-      let u = some-core 32 (l .locked) none-beyond (λ e. ne (R .good .held .busy e)) in
+      let u = some-core (l .locked) (λ e. ne (R .good .held .busy e)) in
       record { core = u .0; ready = ready (u .0) (u .1); its-gang = locked-gang W (l .holder) (u .0) _ _ _ (at-rest W l R (u .0)) (u .1) }
     where
       ready : (d : ℕ) → has (l .locked) d ≡ true → Ready W d
       ready d p = locked-first W (l .holder) d (lockedAt l d) (blockedAt l d) (occupantAt l d) (at-rest W l R d) p
-
-      none-beyond : (d : ℕ) → 32 ≤ d → has (l .locked) d ≡ false
-      none-beyond d i = is-false (has (l .locked) d) (λ p. ready d p (W .beyond d i))
 
   pub rest-shape : Shape W l
   rest-shape = record {

@@ -1,5 +1,5 @@
 -- What serving goes by and never changes: the order of gangs, each thread's gang, and each core's first ready thread.
-use Prim.Native.Nat.{ℕ, _<_, _≤_}
+use Prim.Native.Nat.{ℕ, _<_}
 use mathlib.Core.Bool.{Bool, true, false}
 use mathlib.Core.Path.{_≡_}
 use Rattle.lock.specs.declared.Lock.{Lock}
@@ -20,7 +20,6 @@ pub record World : Type 0 where
   pub strict : Order gangs higher
   pub real : (t : ℕ) → gang t < gangs
   pub a-gang : (t : ℕ) → gang t ≡ 255 → ⊥
-  pub beyond : (d : ℕ) → 32 ≤ d → first d ≡ 255
 
 -- core d has a first ready thread
 abbrev pub Ready : World → ℕ → Type 0

@@ -2,6 +2,9 @@
 ghost use mathlib.Core.Path.{_≡_};
 ghost use Prim.Native.Nat.{_<_};
 ghost use Rattle.lock.specs.Serve.{freeLock, answeredOf, freedOf, vacatedOf, settledOf, leftOf, takenOf, displacedOf, blockedOf, claimedOf, admittedOf, serveOf, oweOf};
+ghost use Rattle.lock.specs.LockRules.{pins, lockOk};
+
+mod rules;
 
 // Who holds the lock, which cores are locked, blocked and owing, and each core's occupant.
 pub struct Lock {
@@ -43,6 +46,45 @@ impl Lock {
     {
         self.owing = coreset::set(self.owing, c);
         self
+    }
+
+    // Whether the lock is well formed, against how many cores, threads and gangs there are, and each thread's core and gang.
+    pub fn well_formed<'a>(
+        self,
+        cores: u8,
+        threads: u8,
+        gangs: u8,
+        core: &'a [u8; 128],
+        gang: &'a [u8; 128],
+    ) -> bool
+        ensures { λ r. ⌜ r ≡ lockOk (pins cores threads gangs (now (core .entry)) (now (gang .entry))) self ⌝ }
+    {
+        if !rules::held_ok(gangs, self.holder, self.locked) {
+            return false;
+        }
+        if !rules::idle_ok(self.holder, self.blocked) {
+            return false;
+        }
+        let named = self.locked | self.blocked | self.owing;
+        for c in 0..coreset::WIDTH {
+            let place = c as usize;
+            let t = self.occupant[place];
+            if !rules::sets_ok(cores, c, coreset::test(named, c)) {
+                return false;
+            }
+            if !rules::pinned_ok(cores, threads, c, t, rules::at(core, t)) {
+                return false;
+            }
+            if !rules::ours_ok(
+                self.holder,
+                coreset::test(self.locked, c),
+                t,
+                rules::at(gang, t),
+            ) {
+                return false;
+            }
+        }
+        true
     }
 
     // Step (a): c no longer owes and is no longer blocked.

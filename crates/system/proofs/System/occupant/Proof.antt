@@ -1,0 +1,19 @@
+-- `System::occupant` meets its contract: the value is the one that the definition names.
+use borrow.Author.Needs.{needs}
+use Rattle.system.proofs.System.occupant.Statement.{statement}
+use Rattle.system.proofs.System.occupant.Tie as tie
+
+occupant-at-requires : tie.Need-occupant-at-requires
+occupant-at-requires c κs = search needs
+
+cast-about-one : tie.Need-cast-about-one
+cast-about-one c = search needs
+
+about-one-requires : tie.Need-about-one-requires
+about-one-requires c κs = search needs
+
+returns : tie.Need-returns
+returns c = cc
+
+pub occupant-spec : {M : Type 1} → statement M
+occupant-spec = tie.close (tie.spec occupant-at-requires cast-about-one about-one-requires returns)

@@ -1,0 +1,16 @@
+-- `System::served` meets its contract: the value is the one that the definition names.
+use borrow.Author.Needs.{needs}
+use Rattle.system.proofs.System.served.Statement.{statement}
+use Rattle.system.proofs.System.served.Tie as tie
+
+value-of-requires : tie.Need-value-of-requires
+value-of-requires c κs = search needs
+
+about-one-requires : tie.Need-about-one-requires
+about-one-requires c κs = search needs
+
+returns : tie.Need-returns
+returns c = cc
+
+pub served-spec : {M : Type 1} → statement M
+served-spec = tie.close (tie.spec value-of-requires about-one-requires returns)

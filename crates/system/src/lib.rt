@@ -1,0 +1,79 @@
+// The system: a table, its threads' states, each gang's releases, the lock, and the kept counts of the allowance. Seven events change
+// it and eight questions ask about it. Each takes the system by value and hands it back beside its answer.
+ghost use mathlib.Core.Path.{_≡_};
+ghost use Rattle.system.specs.System.{emptySystem, freshSystem};
+ghost use Rattle.system.specs.WellFormed.{wellFormed};
+use ledger::Ledger;
+use lock::Lock;
+use table::Table;
+
+mod allowance;
+mod events;
+mod questions;
+mod steps;
+mod threads;
+mod well_formed;
+
+pub use events::Reply;
+pub use questions::Finding;
+pub use questions::Told;
+
+// The most that a TRAFFIC may carry, and that a kept count comes to.
+pub const MAX_TRAFFIC: u32 = 1000000;
+
+pub struct System {
+    pub table: Table,
+    // Each thread's state: finished, ready or waiting.
+    pub state: [u8; 128],
+    pub ledger: Ledger,
+    pub lock: Lock,
+    // Each core's transactions since the last TICK, kept at 1,000,000 at most.
+    pub kept: [u32; 32],
+}
+
+impl System {
+    // The empty system: no cores, gangs or threads.
+    pub fn empty() -> System
+        ensures { λ r. ⌜ r ≡ emptySystem ⌝ }
+    {
+        System::fresh(Table::empty())
+    }
+
+    // The system of a table that nothing has happened to.
+    pub fn fresh(table: Table) -> System
+        ensures { λ r. ⌜ r ≡ freshSystem table ⌝ }
+    {
+        System {
+            table,
+            state: [table::FINISHED; 128],
+            ledger: Ledger::empty(),
+            lock: Lock::free(),
+            kept: [0; 32],
+        }
+    }
+
+    // Whether the system is well formed.
+    pub fn well_formed(self) -> bool
+        ensures { λ r. ⌜ r ≡ wellFormed self ⌝ }
+    {
+        let table = self.table;
+        let ledger = self.ledger;
+        let lock = self.lock;
+        if table.well_formed() {
+            if well_formed::states_ok(&self.state, table.threads) {
+                if well_formed::counts_ok(&self.kept, table.cores) {
+                    if ledger.well_formed(table.gangs) {
+                        return lock.well_formed(
+                            table.cores,
+                            table.threads,
+                            table.gangs,
+                            &table.core,
+                            &table.gang,
+                        );
+                    }
+                }
+            }
+        }
+        false
+    }
+}

@@ -1,0 +1,22 @@
+-- `table::order::stands`: the two readings are the thread's state and its core, tested in `standing`'s order.
+use borrow.Author.Tests.{eq-eqb, ne-eqb}
+use Rattle.table.specs.Order.{standing}
+use Rattle.table.proofs.order.stands.Statement.{statement}
+use Rattle.table.proofs.order.stands.Tie as tie
+
+at-requires : tie.Need-at-requires
+at-requires c κs = tt
+
+at-requires-2 : tie.Need-at-requires-2
+at-requires-2 c κs = tt
+
+returns : tie.Need-returns
+unfolding standing
+returns c = rw (← c .before .before .before .at .ensures, ← c .at2 .ensures, eq-eqb _ 1 (c .before .before .if1 .taken))
+
+returns-2 : tie.Need-returns-2
+unfolding standing
+returns-2 c = rw (← c .before .at .ensures, ne-eqb _ 1 (c .if1 .left))
+
+pub stands-spec : {M : Type 1} → statement M
+stands-spec = tie.close (tie.spec at-requires at-requires-2 returns returns-2)

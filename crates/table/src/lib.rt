@@ -1,0 +1,84 @@
+// The table of cores, gangs and pinned threads: its rules, the order of its gangs, and a core's first ready thread.
+ghost use mathlib.Core.Path.{_≡_};
+ghost use lib.ListN.{getD};
+ghost use Rattle.table.specs.Rules.{emptyTable, tableOk};
+
+mod order;
+mod rules;
+
+pub use order::ahead;
+pub use order::first_ready;
+pub use rules::priority_taken;
+
+// How many cores, gangs and threads there is room for, and how large a priority and a budget may be.
+pub const MAX_CORES: u8 = 32;
+
+pub const MAX_GANGS: u8 = 32;
+
+pub const MAX_THREADS: u8 = 128;
+
+pub const TOP_PRIORITY: u8 = 99;
+
+pub const MAX_BUDGET: u32 = 1000000;
+
+// A thread's states.
+pub const FINISHED: u8 = 0;
+
+pub const READY: u8 = 1;
+
+pub const WAITING: u8 = 2;
+
+// Each gang's priority and budget, and each thread's gang and the core that it is pinned to.
+pub struct Table {
+    pub cores: u8,
+    pub gangs: u8,
+    pub threads: u8,
+    pub priority: [u8; 32],
+    pub budget: [u32; 32],
+    pub gang: [u8; 128],
+    pub core: [u8; 128],
+}
+
+impl Table {
+    // The empty table: no cores, gangs or threads.
+    pub fn empty() -> Table
+        ensures { λ r. ⌜ r ≡ emptyTable ⌝ }
+    {
+        Table {
+            cores: 0,
+            gangs: 0,
+            threads: 0,
+            priority: [0; 32],
+            budget: [0; 32],
+            gang: [0; 128],
+            core: [0; 128],
+        }
+    }
+
+    // Whether the table is empty or obeys the table rules, with every unused place zero.
+    pub fn well_formed(self) -> bool
+        ensures { λ r. ⌜ r ≡ tableOk self ⌝ }
+    {
+        if !rules::sizes_ok(self.cores, self.gangs, self.threads) {
+            return false;
+        }
+        if !rules::gangs_ok(&self.priority, &self.budget, self.gangs) {
+            return false;
+        }
+        if !rules::threads_ok(&self.gang, &self.core, self.threads, self.gangs, self.cores) {
+            return false;
+        }
+        if !rules::distinct(&self.priority, self.gangs) {
+            return false;
+        }
+        rules::manned(&self.gang, self.gangs, self.threads)
+    }
+}
+
+// What stands at place i, and 0 past the last place: so that no reader needs a bound.
+fn at(xs: &[u8], i: u8) -> u8
+    ensures { λ r. ⌜ r ≡ getD (now (xs .entry)) i 0 ⌝ }
+{
+    let i = i as usize;
+    if i < xs.len() { xs[i] } else { 0 }
+}
