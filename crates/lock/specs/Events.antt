@@ -6,7 +6,7 @@ use lib.ListN.{getD}
 use Rattle.coreset.specs.Set.{has, withCore, withinWidth}
 use Rattle.coreset.specs.Laws.{has-with-same, has-with-other, within-below}
 use Rattle.lock.specs.declared.Lock.{Lock}
-use Rattle.lock.specs.Logic.{clash}
+use Rattle.ranges.specs.Logic.{clash}
 use Rattle.lock.specs.Serve.{oweOf}
 use Rattle.lock.specs.World.{World}
 use Rattle.lock.specs.Good.{Stands, Good}

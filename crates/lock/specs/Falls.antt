@@ -8,7 +8,7 @@ use lib.ListN.{getD}
 use Rattle.coreset.specs.Set.{has, withoutCore}
 use Rattle.coreset.specs.Laws.{has-with-other, has-without-same, has-without-other, has-empty, or-other, without-empty, empty-ext}
 use Rattle.lock.specs.declared.Lock.{Lock}
-use Rattle.lock.specs.Logic.{clash, is-false, at-or-away}
+use Rattle.ranges.specs.Logic.{clash, is-false, at-or-away}
 use Rattle.lock.specs.Serve.{answeredOf, leftOf, admittedOf, servedOf}
 use Rattle.lock.specs.World.{World, firstGang, serve}
 use Rattle.lock.specs.Good.{Good, locked-gang}

@@ -6,7 +6,7 @@ use lib.ListN.{length, getD, replicate}
 use Rattle.coreset.specs.Set.{has}
 use Rattle.coreset.specs.Laws.{has-empty}
 use Rattle.lock.specs.declared.Lock.{Lock}
-use Rattle.lock.specs.Logic.{NoneOr, clash}
+use Rattle.ranges.specs.Logic.{NoneOr, clash}
 use Rattle.lock.specs.Serve.{freeLock}
 use Rattle.lock.specs.Held.{Held}
 use Rattle.lock.specs.World.{World, Ready, firstGang}

@@ -9,7 +9,7 @@ use lib.Seq.{getD-set-same, getD-set-other}
 use Rattle.coreset.specs.Set.{has, withoutCore}
 use Rattle.coreset.specs.Laws.{has-with-same, has-with-other, has-without-same, has-without-other, has-empty, or-none, without-empty}
 use Rattle.lock.specs.declared.Lock.{Lock}
-use Rattle.lock.specs.Logic.{NoneOr, at-or-away}
+use Rattle.ranges.specs.Logic.{NoneOr, at-or-away}
 use Rattle.lock.specs.Serve.{answeredOf, freedOf, vacatedOf, settledOf, leftOf, takenOf, displacedOf, blockedOf, claimedOf, admittedOf, servedOf}
 use Rattle.lock.specs.Cases.{settled-none, settled-some, claimed-free, claimed-same, claimed-ahead, claimed-behind, admitted-none, admitted-some}
 use Rattle.lock.specs.Held.{Held, held-taken}

@@ -1,4 +1,3 @@
-pub mod Logic
 pub mod Serve
 pub mod Cases
 pub mod Held

@@ -12,7 +12,7 @@ use lib.Seq.{getD-set-same, getD-set-other}
 use Rattle.coreset.specs.Set.{has, withoutCore, withinWidth}
 use Rattle.coreset.specs.Laws.{has-below, has-empty, all-below, with-lt, without-lt, without-empty, within-below, within-beyond, or-either}
 use Rattle.lock.specs.declared.Lock.{Lock}
-use Rattle.lock.specs.Logic.{NoneOr, clash, at-or-away}
+use Rattle.ranges.specs.Logic.{NoneOr, clash, at-or-away}
 use Rattle.lock.specs.Serve.{freeLock, oweOf, servedOf}
 use Rattle.lock.specs.Held.{held-served}
 use Rattle.lock.specs.Good.{nobody}

@@ -12,7 +12,7 @@ use Rattle.coreset.specs.Set.{has}
 use Rattle.coreset.specs.Laws.{has-beyond, or-either, or-left, or-right}
 use Rattle.ranges.specs.Range.{every, every-true, make-every}
 use Rattle.lock.specs.declared.Lock.{Lock}
-use Rattle.lock.specs.Logic.{NoneOr, clash, implies, implied, make-implies}
+use Rattle.ranges.specs.Logic.{NoneOr, clash, implies, implied, make-implies}
 use Rattle.lock.specs.Held.{Held}
 use Rattle.lock.specs.Occupants.{Of}
 use Rattle.lock.specs.LockRules.{Pins, coreOf, gangOf, occupantOf, named, heldOk, idleOk, setsOk, pinnedOk, oursOk, coreOk, coresOk, lockOk}

@@ -9,7 +9,7 @@ use lib.ListN.{getD}
 use Rattle.coreset.specs.Set.{has}
 use Rattle.ranges.specs.Range.{every, make-every, not-every}
 use Rattle.lock.specs.declared.Lock.{Lock}
-use Rattle.lock.specs.Logic.{implies}
+use Rattle.ranges.specs.Logic.{implies}
 
 -- what the lock is held against: how many cores, threads and gangs there are, and each thread's core and gang
 pub record Pins : Type 0 where

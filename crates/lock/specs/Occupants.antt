@@ -8,7 +8,7 @@ use lib.Seq.{getD-set-same, getD-set-other}
 use Rattle.coreset.specs.Set.{has, withCore}
 use Rattle.coreset.specs.Laws.{has-with-other, has-without-same, has-without-other, has-empty}
 use Rattle.lock.specs.declared.Lock.{Lock}
-use Rattle.lock.specs.Logic.{clash, at-or-away}
+use Rattle.ranges.specs.Logic.{clash, at-or-away}
 use Rattle.lock.specs.Serve.{answeredOf, takenOf, displacedOf, servedOf}
 use Rattle.lock.specs.Held.{Held, held-left}
 use Rattle.lock.specs.World.{World}

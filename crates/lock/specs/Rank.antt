@@ -10,7 +10,7 @@ use lib.Bits.{bitAnd}
 use Rattle.coreset.specs.Set.{has}
 use Rattle.coreset.specs.Laws.{apart, make-apart}
 use Rattle.lock.specs.declared.Lock.{Lock}
-use Rattle.lock.specs.Logic.{clash, is-false}
+use Rattle.ranges.specs.Logic.{clash, is-false}
 use Rattle.lock.specs.World.{World, Ready, firstGang}
 
 -- no locked core owes: from then on serving owing cores does not free the lock

@@ -8,7 +8,7 @@ use lib.Seq.{ext-getD}
 use Rattle.coreset.specs.Set.{has}
 use Rattle.coreset.specs.Laws.{has-empty, ext, empty-ext}
 use Rattle.lock.specs.declared.Lock.{Lock}
-use Rattle.lock.specs.Logic.{clash, is-false}
+use Rattle.ranges.specs.Logic.{clash, is-false}
 use Rattle.lock.specs.World.{World}
 use Rattle.lock.specs.Good.{Stands, Settled, Good, locked-first}
 

@@ -6,7 +6,7 @@ use lib.ListN.{getD}
 use Rattle.coreset.specs.Set.{has}
 use Rattle.coreset.specs.Counting.{some-core}
 use Rattle.lock.specs.declared.Lock.{Lock}
-use Rattle.lock.specs.Logic.{clash}
+use Rattle.ranges.specs.Logic.{clash}
 use Rattle.lock.specs.World.{World, Ready, firstGang}
 use Rattle.lock.specs.Good.{Stands, locked-first, locked-gang}
 use Rattle.lock.specs.Rest.{AtRest, at-rest, free-none, none-free}

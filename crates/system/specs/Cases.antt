@@ -11,8 +11,9 @@ use Rattle.wire.specs.declared.refusal.Refusal.the-variants.{OutOfRange, NotRun
 use Rattle.system.specs.declared.System.{System}
 use Rattle.system.specs.declared.events.Reply.{Reply}
 use Rattle.system.specs.System.{stateIn, occupantIn, keptIn, numberIn, running, withLock}
-use Rattle.system.specs.Stop.{maxTraffic, stopped}
-use Rattle.system.specs.Threads.{allFinished}
+use Rattle.state.specs.Allowance.{maxTraffic}
+use Rattle.system.specs.Stop.{stopped}
+use Rattle.state.specs.Threads.{allFinished}
 use Rattle.system.specs.WellFormed.{wellFormed}
 use Rattle.system.specs.Events.{replyOf, refusedBy, servedBy, skippedBy, releasedBy, releaseStep, turned, leaveStep, wakeStep, servedLock, serveStep, counted, trafficStep, checked}
 

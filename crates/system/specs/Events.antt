@@ -16,8 +16,9 @@ use Rattle.wire.specs.declared.refusal.Refusal.the-variants.{OutOfRange, NotRun
 use Rattle.system.specs.declared.System.{System}
 use Rattle.system.specs.declared.events.Reply.{Reply}
 use Rattle.system.specs.System.{stateIn, coreIn, gangIn, occupantIn, keptIn, numberIn, running, firstIn, aheadIn, withState, withLedger, withLock, withKept}
-use Rattle.system.specs.Stop.{maxTraffic, sumOf, stopped}
-use Rattle.system.specs.Threads.{allFinished, readied, owedBy}
+use Rattle.state.specs.Allowance.{maxTraffic, sumOf}
+use Rattle.system.specs.Stop.{stopped}
+use Rattle.state.specs.Threads.{allFinished, readied, owedBy}
 use Rattle.system.specs.WellFormed.{wellFormed}
 
 -- an answer beside the system that it leaves

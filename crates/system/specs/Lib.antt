@@ -1,7 +1,15 @@
-pub mod Threads
 pub mod Stop
 pub mod WellFormed
 pub mod System
 pub mod Events
 pub mod Cases
 pub mod Questions
+pub mod Ways
+pub mod Refusals
+pub mod Exactly
+pub mod Leaves
+pub mod Shaped
+pub mod WellFormedLaws
+pub mod Keeps
+pub mod Applied
+pub mod Standing

@@ -12,7 +12,7 @@ use Rattle.table.specs.Numbers.{finished, maxCores, maxThreads}
 use Rattle.table.specs.Order.{ahead, gangOf, coreOf, firstReady}
 use Rattle.table.specs.Rules.{emptyTable}
 use Rattle.system.specs.declared.System.{System}
-use Rattle.system.specs.Threads.{isRunning}
+use Rattle.state.specs.Threads.{isRunning}
 
 -- a table's system before any event: "Each thread is finished (at first)"
 abbrev pub freshSystem : Table → System

@@ -7,19 +7,13 @@ use ledger::Ledger;
 use lock::Lock;
 use table::Table;
 
-mod allowance;
 mod events;
 mod questions;
 mod steps;
-mod threads;
-mod well_formed;
 
 pub use events::Reply;
 pub use questions::Finding;
 pub use questions::Told;
-
-// The most that a TRAFFIC may carry, and that a kept count comes to.
-pub const MAX_TRAFFIC: u32 = 1000000;
 
 pub struct System {
     pub table: Table,
@@ -60,8 +54,8 @@ impl System {
         let ledger = self.ledger;
         let lock = self.lock;
         if table.well_formed() {
-            if well_formed::states_ok(&self.state, table.threads) {
-                if well_formed::counts_ok(&self.kept, table.cores) {
+            if state::rules::states_ok(&self.state, table.threads) {
+                if state::rules::counts_ok(&self.kept, table.cores) {
                     if ledger.well_formed(table.gangs) {
                         return lock.well_formed(
                             table.cores,

@@ -2,9 +2,9 @@
 ghost use mathlib.Core.Path.{_≡_};
 ghost use Rattle.system.specs.Questions.{findingRefusal, findingValue, aboutAll, aboutOne, occupantFound, stoppedFound, numberFound, servedFound, skippedFound, jobFound, lowestFound, owingFound};
 use crate::System;
-use crate::allowance::is_stopped;
-use crate::threads::occupant_at;
 use ledger::value_of;
+use state::allowance::is_stopped;
+use state::threads::occupant_at;
 use wire::refusal::Refusal;
 
 // What a question finds: a value, or why it is refused.

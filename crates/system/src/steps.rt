@@ -2,16 +2,16 @@
 ghost use mathlib.Core.Path.{_≡_};
 ghost use Rattle.system.specs.Events.{refusedBy, servedBy, skippedBy, releasedBy, releaseStep, turned, leaveStep, wakeStep, serveStep, counted, trafficStep, tickStep, stepOf};
 use crate::System;
-use crate::allowance::is_stopped;
-use crate::allowance::sum_of;
 use crate::events::Reply;
-use crate::threads::all_finished;
-use crate::threads::is_running;
-use crate::threads::make_owe;
-use crate::threads::make_ready;
-use crate::threads::occupant_at;
-use crate::threads::thread_at;
 use ledger::value_of;
+use state::allowance::is_stopped;
+use state::allowance::sum_of;
+use state::threads::all_finished;
+use state::threads::is_running;
+use state::threads::make_owe;
+use state::threads::make_ready;
+use state::threads::occupant_at;
+use state::threads::thread_at;
 use wire::answer::Answer;
 use wire::event::Event;
 use wire::refusal::Refusal;
@@ -189,7 +189,7 @@ impl System {
         if table.cores <= c {
             return self.refused(Refusal::OutOfRange);
         }
-        if crate::MAX_TRAFFIC < transactions {
+        if state::allowance::MAX_TRAFFIC < transactions {
             return self.refused(Refusal::OutOfRange);
         }
         if occupant_at(&lock.occupant, c) == coreset::NONE {

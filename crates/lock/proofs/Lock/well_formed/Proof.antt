@@ -10,7 +10,7 @@ use native.Mathlib.Omega.{arith}
 use lib.ListN.{length, getD}
 use Rattle.coreset.specs.Set.{has}
 use Rattle.lock.specs.declared.Lock.{Lock}
-use Rattle.lock.specs.Logic.{getD-within}
+use Rattle.ranges.specs.Lists.{getD-within}
 use Rattle.lock.specs.LockRules.{Pins, pins, coreOf, gangOf, occupantOf, named, setsOk, pinnedOk, oursOk, coreOk, core-not-named, core-not-pinned, core-not-ours, core-all, lock-not-held, lock-not-idle, lock-not-core, lock-all}
 use Rattle.lock.proofs.Lock.well_formed.Statement.{statement}
 use Rattle.lock.proofs.Lock.well_formed.Tie as tie

@@ -1,7 +1,7 @@
 -- `System::counted` meets its contract: past the last place nothing is stored.
 use native.Mathlib.Omega.{arith}
-use Rattle.system.proofs.Lists.{set-beyond}
-use Rattle.system.specs.Stop.{sumOf}
+use Rattle.ranges.specs.Lists.{set-beyond}
+use Rattle.state.specs.Allowance.{sumOf}
 use Rattle.system.specs.System.{keptIn, withKept}
 use lib.ListN.{length, set}
 use Prim.Native.Nat.{ℕ, _<_, _≤_}

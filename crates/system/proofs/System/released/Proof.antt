@@ -1,7 +1,7 @@
 -- `System::released` meets its contract: all the gang's threads finished or not decides, and the answer is the number taken.
 use Rattle.system.specs.Cases.{release-served, release-skipped}
 use Rattle.system.specs.Events.{replyOf}
-use Rattle.system.specs.Threads.{allFinished}
+use Rattle.state.specs.Threads.{allFinished}
 use Rattle.system.specs.System.{numberIn}
 use Rattle.system.specs.declared.System.{System}
 use Rattle.wire.specs.declared.answer.Answer.the-variants.{Served, Skipped}

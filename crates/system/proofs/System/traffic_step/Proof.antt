@@ -1,6 +1,7 @@
 -- `System::traffic_step` meets its contract: each test is one of the rule's.
 use Rattle.system.specs.Events.{replyOf, counted}
-use Rattle.system.specs.Stop.{maxTraffic, stoppedAt, stopped}
+use Rattle.state.specs.Allowance.{maxTraffic, stoppedAt}
+use Rattle.system.specs.Stop.{stopped}
 use Rattle.system.specs.System.{occupantIn, keptIn}
 use Rattle.wire.specs.declared.answer.Answer.the-variants.{Counted}
 use mathlib.Core.Bool.{Bool}

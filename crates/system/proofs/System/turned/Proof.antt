@@ -1,5 +1,5 @@
 -- `System::turned` meets its contract: past the last place no state is stored.
-use Rattle.system.proofs.Lists.{set-beyond}
+use Rattle.ranges.specs.Lists.{set-beyond}
 use Rattle.system.specs.System.{coreIn, withState, withLock}
 use Rattle.lock.specs.Serve.{oweOf}
 use Rattle.lock.specs.declared.Lock.{Lock}

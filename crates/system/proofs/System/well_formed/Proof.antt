@@ -1,5 +1,6 @@
 -- `System::well_formed` meets its contract: it asks the five parts in turn, and one that fails decides.
-use Rattle.system.specs.WellFormed.{statesOk, countsOk, wellFormed}
+use Rattle.state.specs.Rules.{statesOk, countsOk}
+use Rattle.system.specs.WellFormed.{wellFormed}
 use Rattle.ledger.specs.WellFormed.{ledgerOk}
 use Rattle.table.specs.Rules.{tableOk}
 use mathlib.Core.Bool.{true, false}

@@ -1,0 +1,20 @@
+-- `occupant_at` meets its contract: past the end the list gives none.
+use Rattle.ranges.specs.Lists.{getD-within}
+use mathlib.Core.Path.{sym}
+use denote.Ref.{now}
+use lib.ListN.{List·getD-eq-default}
+use borrow.Author.Needs.{needs}
+use Rattle.state.proofs.threads.occupant_at.Statement.{statement}
+use Rattle.state.proofs.threads.occupant_at.Tie as tie
+
+shared-slice-read-result : tie.Need-shared-slice-read-result
+shared-slice-read-result c = search needs
+
+returns : tie.Need-returns
+returns c = getD-within (now (c .before .before .args .occupant)) (c .before .before .args .c) 0 255 (search needs)
+
+returns-2 : tie.Need-returns-2
+returns-2 c = sym (List·getD-eq-default (now (c .before .args .occupant)) 255 (c .if1 .left))
+
+pub occupant-at-spec : {M : Type 1} → statement M
+occupant-at-spec = tie.close (tie.spec shared-slice-read-result returns returns-2)

@@ -1,0 +1,19 @@
+-- `thread_at` meets its contract: past the end the list gives 0.
+use mathlib.Core.Path.{sym}
+use denote.Ref.{now}
+use lib.ListN.{List·getD-eq-default}
+use borrow.Author.Needs.{needs}
+use Rattle.state.proofs.threads.thread_at.Statement.{statement}
+use Rattle.state.proofs.threads.thread_at.Tie as tie
+
+shared-slice-read-result : tie.Need-shared-slice-read-result
+shared-slice-read-result c = search needs
+
+returns : tie.Need-returns
+returns c = search needs
+
+returns-2 : tie.Need-returns-2
+returns-2 c = sym (List·getD-eq-default (now (c .before .args .xs)) 0 (c .if1 .left))
+
+pub thread-at-spec : {M : Type 1} → statement M
+thread-at-spec = tie.close (tie.spec shared-slice-read-result returns returns-2)
