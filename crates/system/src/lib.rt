@@ -14,6 +14,8 @@ mod steps;
 pub use events::Reply;
 pub use questions::Finding;
 pub use questions::Told;
+pub use questions::refusal_in;
+pub use questions::value_in;
 
 pub struct System {
     pub table: Table,

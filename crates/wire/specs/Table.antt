@@ -4,10 +4,10 @@ use mathlib.Core.List.{List}
 use mathlib.Core.Bool.{cond}
 use lib.ListN.{length, getD}
 use lib.Dec.{eqb, leb}
-use Rattle.wire.specs.declared.table.TableRecord.{TableRecord}
-use Rattle.wire.specs.declared.table.TableRecord.the-variants.{Cores, Gang, ShortGang, Thread}
-use Rattle.wire.specs.declared.table.NextTableRecord.{NextTableRecord}
-use Rattle.wire.specs.declared.table.NextTableRecord.the-variants as found
+use Rattle.wire.specs.declared.table_record.TableRecord.{TableRecord}
+use Rattle.wire.specs.declared.table_record.TableRecord.the-variants.{Cores, Gang, ShortGang, Thread}
+use Rattle.wire.specs.declared.table_record.NextTableRecord.{NextTableRecord}
+use Rattle.wire.specs.declared.table_record.NextTableRecord.the-variants as found
 use Rattle.wire.specs.declared.kinds.Stream.the-variants as stream
 use Rattle.wire.specs.declared.record.Seen.{Seen}
 use Rattle.wire.specs.declared.record.Seen.the-variants as seen

@@ -5,4 +5,4 @@ pub mod kinds;
 pub mod number;
 pub mod record;
 pub mod refusal;
-pub mod table;
+pub mod table_record;

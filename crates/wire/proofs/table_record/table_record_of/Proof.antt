@@ -1,11 +1,11 @@
--- `wire::table::table_record_of` meets its contract: each test says which kind of record it is.
+-- `wire::table_record::table_record_of` meets its contract: each test says which kind of record it is.
 use borrow.Author.Tests.{eq-eqb, ne-eqb, le-leb, lt-leb}
 use mathlib.Core.Path.{ap, ap₂}
-use Rattle.wire.specs.declared.table.TableRecord.the-variants.{Cores, Gang, ShortGang, Thread}
+use Rattle.wire.specs.declared.table_record.TableRecord.the-variants.{Cores, Gang, ShortGang, Thread}
 use Rattle.wire.specs.Table.{tableRecordOf}
 use borrow.Author.Needs.{needs}
-use Rattle.wire.proofs.table.table_record_of.Statement.{statement}
-use Rattle.wire.proofs.table.table_record_of.Tie as tie
+use Rattle.wire.proofs.table_record.table_record_of.Statement.{statement}
+use Rattle.wire.proofs.table_record.table_record_of.Tie as tie
 
 byte-at-requires : tie.Need-byte-at-requires
 byte-at-requires c κs = search needs

@@ -1,4 +1,4 @@
--- `wire::table::next_table_record` meets its contract: the record question says which case holds, and the payload is the record's.
+-- `wire::table_record::next_table_record` meets its contract: the record question says which case holds, and the payload is the record's.
 use mathlib.Core.Path.{_≡_, sym, ap, ap₂, _∙_}
 use mathlib.Core.List.{List}
 use Prim.Native.Nat.{ℕ}
@@ -7,11 +7,11 @@ use Rattle.wire.specs.declared.record.Seen.{Seen}
 use Rattle.wire.specs.declared.kinds.Stream.the-variants as stream
 use Rattle.wire.specs.Record.{payloadAt}
 use Rattle.wire.specs.Table.{tableRecordOf, tableRecordSeen, nextTableRecord}
-use Rattle.wire.specs.declared.table.TableRecord.{TableRecord}
-use Rattle.wire.specs.declared.table.NextTableRecord.the-variants as found
+use Rattle.wire.specs.declared.table_record.TableRecord.{TableRecord}
+use Rattle.wire.specs.declared.table_record.NextTableRecord.the-variants as found
 use borrow.Author.Needs.{needs}
-use Rattle.wire.proofs.table.next_table_record.Statement.{statement}
-use Rattle.wire.proofs.table.next_table_record.Tie as tie
+use Rattle.wire.proofs.table_record.next_table_record.Statement.{statement}
+use Rattle.wire.proofs.table_record.next_table_record.Tie as tie
 
 record-at-requires : tie.Need-record-at-requires
 record-at-requires c κs = search needs

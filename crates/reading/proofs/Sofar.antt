@@ -1,0 +1,72 @@
+-- What the loop that reads a table keeps: reading on from where it stands gives the whole reading.
+use Prim.Native.Nat.{ℕ, zero, suc, _+_, _-_, _≤_, _<_}
+use mathlib.Core.Path.{_≡_, refl, sym, ap, _∙_}
+use mathlib.Core.List.{List}
+use native.Mathlib.Omega.{arith}
+use lib.ListN.{length, take, drop, length-drop}
+use lib.Seq.{take-all, drop-drop}
+use Rattle.table.specs.declared.Table.{Table}
+use Rattle.table.specs.Rules.{emptyTable}
+use Rattle.wire.specs.RecordLaws.{Within}
+use Rattle.wire.specs.declared.refusal.Refusal.{Refusal}
+use Rattle.reading.specs.declared.rules.Verdict.{Verdict}
+use Rattle.reading.specs.declared.rules.Verdict.the-variants.{Accepted, Refused}
+use Rattle.reading.specs.declared.turn.Turn.{Turn}
+use Rattle.reading.specs.Turn.{turnOf}
+use Rattle.reading.specs.TurnLaws.{turn-within}
+use Rattle.reading.specs.Reading.{told, ended, readOn, readingOf}
+use Rattle.reading.specs.ReadingLaws.{read-end, read-stop, read-go}
+
+-- b is the table that the bytes before the place at give, and there are turns enough for those after it
+pub record Sofar (d : ℕ) (s : List ℕ) (b : Table) (at : ℕ) : Type 0 where
+  pub turns : ℕ
+  pub inside : at ≤ length s
+  pub enough : length s - at ≤ turns
+  pub rest : readingOf d s ≡ readOn turns d b at (drop at s)
+
+-- at first
+pub start : (d : ℕ) (s : List ℕ) (b : Table) → b ≡ emptyTable → Sofar d s b 0
+start d s b e = record {
+  turns = length s;
+  inside = omega arith;
+  enough = omega arith;
+  rest = rw e;
+}
+
+-- at the end
+pub ends : (d : ℕ) (s : List ℕ) (b : Table) (at : ℕ) → Sofar d s b at → length s ≤ at → ended b at ≡ readingOf d s
+ends d s b at f l = sym (f .rest ∙ read-end d b at (drop at s) (f .turns) (simp length-drop (omega arith)))
+
+-- a turn on the part from the place on
+module _ (d : ℕ) (s : List ℕ) (b : Table) (at : ℕ) (f : Sofar d s b at) (l : at < length s) (t : Turn)
+    (e : t ≡ turnOf d b (take (length s - at) (drop at s))) where
+  whole : t ≡ turnOf d b (drop at s)
+  whole = e ∙ ap (turnOf d b) (take-all (length s - at) (drop at s) (simp length-drop (omega arith)))
+
+  some : 0 < length (drop at s)
+  some = simp length-drop (omega arith)
+
+  its : {v : Verdict} → t .taken .verdict ≡ v → turnOf d b (drop at s) .taken .verdict ≡ v
+  its v = sym (ap (λ (x : Turn). x .taken .verdict) whole) ∙ v
+
+  pub stops : (refusal : Refusal) → t .taken .verdict ≡ Refused refusal → told (t .taken .verdict) b at ≡ readingOf d s
+  stops refusal v = by (f .turns) refl
+    where
+      by : (n : ℕ) → f .turns ≡ n → told (t .taken .verdict) b at ≡ readingOf d s
+      by zero z = absurd (omega (arith, f .enough))
+      by (suc n) z = rw v (sym (f .rest ∙ rw z (read-stop d b at (drop at s) n some refusal (its v))))
+
+  pub takes : t .taken .verdict ≡ Accepted → Within (drop at s) 0 (t .size)
+  takes v = rw whole (turn-within d b (drop at s) (its v))
+
+  pub goes : t .taken .verdict ≡ Accepted → Sofar d s (t .taken .table) (at + t .size)
+  goes v = by (f .turns) refl
+    where
+      by : (n : ℕ) → f .turns ≡ n → Sofar d s (t .taken .table) (at + t .size)
+      by zero z = absurd (omega (arith, f .enough))
+      by (suc n) z = record {
+        turns = n;
+        inside = omega (arith, takes v .inside, length-drop at s);
+        enough = omega (arith, f .enough, takes v .header);
+        rest = f .rest ∙ rw (z, read-go d b at (drop at s) n some (its v), drop-drop, ← whole);
+      }

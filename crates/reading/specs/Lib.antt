@@ -1,0 +1,13 @@
+pub mod Taken
+pub mod TakenLaws
+pub mod Ending
+pub mod Turn
+pub mod TurnLaws
+pub mod Reading
+pub mod ReadingLaws
+pub mod Column
+pub mod Building
+pub mod Kept
+pub mod Known
+pub mod Sound
+pub mod SystemRead

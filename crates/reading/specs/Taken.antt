@@ -1,0 +1,109 @@
+-- Document 01, "CORES first and once, then GANG and THREAD mixed; a THREAD names a gang already read": the rules on one more record, as a value.
+-- In the order of "Refusal numbers": 4, 5, 6, 7.
+use Prim.Native.Nat.{ℕ, _+_}
+use mathlib.Core.Bool.{Bool, cond, _&&_}
+use lib.Dec.{eqb, ltb, leb}
+use lib.ListN.{set}
+use Rattle.table.specs.declared.Table.{Table}
+use Rattle.table.specs.Numbers.{maxCores, maxGangs, maxThreads, topPriority, maxBudget}
+use Rattle.table.specs.Occurs.{occurs}
+use Rattle.table.specs.Rules.{within}
+use Rattle.wire.specs.Refusal.{numberOf}
+use Rattle.wire.specs.declared.refusal.Refusal.{Refusal}
+use Rattle.wire.specs.declared.refusal.Refusal.the-variants.{NotCoresFirst, TooMany, OutOfRange, PriorityTaken}
+use Rattle.wire.specs.declared.table_record.TableRecord.{TableRecord}
+use Rattle.wire.specs.declared.table_record.TableRecord.the-variants as put
+use Rattle.reading.specs.declared.rules.Taken.{Taken}
+use Rattle.reading.specs.declared.rules.Verdict.{Verdict}
+use Rattle.reading.specs.declared.rules.Verdict.the-variants.{Accepted, Refused}
+
+-- the number of a verdict: 0, or the refusal's
+abbrev pub numberIn : Verdict → ℕ
+numberIn Accepted = 0
+numberIn (Refused refusal) = numberOf refusal
+
+-- a refused record leaves the table as it came
+abbrev pub refused : Table → Refusal → Taken
+refused b refusal = record { table = b; verdict = Refused refusal }
+
+abbrev pub accepted : Table → Taken
+accepted b = record { table = b; verdict = Accepted }
+
+-- ---- the table with one record more
+
+abbrev pub withCores : Table → ℕ → Table
+withCores b n = record {
+  cores = n;
+  gangs = b .gangs;
+  threads = b .threads;
+  priority = b .priority;
+  budget = b .budget;
+  gang = b .gang;
+  core = b .core;
+}
+
+-- gangs and threads are "numbered from 0"
+abbrev pub withGang : Table → ℕ → ℕ → Table
+withGang b p m = record {
+  cores = b .cores;
+  gangs = b .gangs + 1;
+  threads = b .threads;
+  priority = set (b .priority) (b .gangs) p;
+  budget = set (b .budget) (b .gangs) m;
+  gang = b .gang;
+  core = b .core;
+}
+
+abbrev pub withThread : Table → ℕ → ℕ → Table
+withThread b g c = record {
+  cores = b .cores;
+  gangs = b .gangs;
+  threads = b .threads + 1;
+  priority = b .priority;
+  budget = b .budget;
+  gang = set (b .gang) (b .threads) g;
+  core = set (b .core) (b .threads) c;
+}
+
+-- ---- not 6: "a count, priority, budget, number .. out of range or not in the table"
+
+-- "1 to 32 cores"
+abbrev pub countFits : ℕ → Bool
+countFits n = within 1 n maxCores
+
+-- "Priority 1 to 99"; "Budget 0 to 1,000,000"
+unfoldable pub gangFits : ℕ → ℕ → Bool
+gangFits p m = within 1 p topPriority && leb m maxBudget
+
+-- "a THREAD names a gang already read", and a core of the table
+unfoldable pub threadFits : ℕ → ℕ → ℕ → ℕ → Bool
+threadFits g gangs c cores = ltb g gangs && ltb c cores
+
+-- ---- one more record: a table has no cores before its CORES record, and some after
+
+-- "a second CORES" is 4
+unfoldable pub coresTaken : Table → ℕ → Taken
+coresTaken b n =
+    cond (eqb (b .cores) 0) (cond (countFits n) (accepted (withCores b n)) (refused b OutOfRange)) (refused b NotCoresFirst)
+
+-- "first table record not CORES" is 4, "a 33rd gang" 5, "priority already taken" 7
+unfoldable pub gangTaken : Table → ℕ → ℕ → Taken
+gangTaken b p m =
+    cond (eqb (b .cores) 0) (refused b NotCoresFirst)
+    (cond (leb maxGangs (b .gangs)) (refused b TooMany)
+    (cond (gangFits p m) (cond (occurs (b .priority) (b .gangs) p) (refused b PriorityTaken) (accepted (withGang b p m)))
+    (refused b OutOfRange)))
+
+-- "first table record not CORES" is 4, a "129th thread" 5
+unfoldable pub threadTaken : Table → ℕ → ℕ → Taken
+threadTaken b g c =
+    cond (eqb (b .cores) 0) (refused b NotCoresFirst)
+    (cond (leb maxThreads (b .threads)) (refused b TooMany)
+    (cond (threadFits g (b .gangs) c (b .cores)) (accepted (withThread b g c)) (refused b OutOfRange)))
+
+-- d is what "length 3 has no budget" means
+abbrev pub taken : ℕ → Table → TableRecord → Taken
+taken d b (put.Cores n) = coresTaken b n
+taken d b (put.Gang p m) = gangTaken b p m
+taken d b (put.ShortGang p) = gangTaken b p d
+taken d b (put.Thread g c) = threadTaken b g c

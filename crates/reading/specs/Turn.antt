@@ -1,0 +1,18 @@
+-- One turn of reading a table. Document 01's order: the record question's 1, 2 and 3, "then 4, 5, 6, 7".
+use Prim.Native.Nat.{ℕ}
+use mathlib.Core.List.{List}
+use Rattle.table.specs.declared.Table.{Table}
+use Rattle.wire.specs.Table.{nextTableRecord}
+use Rattle.wire.specs.declared.table_record.NextTableRecord.{NextTableRecord}
+use Rattle.wire.specs.declared.table_record.NextTableRecord.the-variants as found
+use Rattle.reading.specs.declared.turn.Turn.{Turn}
+use Rattle.reading.specs.Taken.{refused, taken}
+
+-- the record that was found, taken into the table, and how many bytes it took
+abbrev pub turnWith : ℕ → Table → NextTableRecord → Turn
+turnWith d b (found.Record put next) = record { taken = taken d b put; size = next }
+turnWith d b (found.Refused refusal) = record { taken = refused b refusal; size = 0 }
+
+-- d is a short GANG's budget, b the table so far, s the bytes left
+unfoldable pub turnOf : ℕ → Table → List ℕ → Turn
+turnOf d b s = turnWith d b (nextTableRecord s)
