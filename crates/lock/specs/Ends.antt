@@ -1,8 +1,8 @@
--- Serving owing cores ends: 32 cores, each at most three times, are at most 96 services.
+-- Serving owing cores ends: k cores, each served at most three times, are at most 3 * k services.
 use Prim.Native.Nat.{ℕ, zero, suc, _+_, _*_, _<_, _≤_}
-use mathlib.Core.Path.{_≡_, refl}
-use mathlib.Core.List.{List, _∷_}
-use native.Mathlib.Decide.{ℕ-discrete}
+use mathlib.Core.Path.{_≡_, refl, sym, _∙_}
+use mathlib.Core.List.{List, [], _∷_}
+use native.Mathlib.Decide.{ℕ-discrete, decLt}
 use native.Mathlib.Omega.{arith}
 use borrow.Author.Tests.{eq-eqb, ne-eqb}
 use lib.ListN.{length}
@@ -43,10 +43,35 @@ unfolding total
 total-le zero cs h = omega arith
 total-le (suc k) cs h = let i = total-le k cs h in let t = h k in omega arith
 
+-- no number from k on stands in the list
+abbrev pub NonePast : ℕ → List ℕ → Type 0
+NonePast k cs = (d : ℕ) → k ≤ d → times d cs ≡ 0
+
+pub none-past-nil : (k : ℕ) → NonePast k []
+unfolding times
+none-past-nil k d h = refl
+
+pub none-past-cons : (k c : ℕ) (cs : List ℕ) → c < k → NonePast k cs → NonePast k (c ∷ cs)
+none-past-cons k c cs l n d h = times-away d c cs (omega arith) ∙ n d h
+
+length-total : (k : ℕ) (cs : List ℕ) → NonePast k cs → length cs ≤ total k cs
+length-total k [] n = omega arith
+length-total k (c ∷ cs) n = go (decLt c k) (length-total k cs)
+  where
+    go : Dec (c < k) → (NonePast k cs → length cs ≤ total k cs) → length (c ∷ cs) ≤ total k (c ∷ cs)
+    go (yes l) f =
+        let i = f (λ d h. sym (times-away d c cs (omega arith)) ∙ n d h) in
+        let t = total-one k c cs l in
+        omega arith
+    go (no l) f = let z = n c (omega arith) in let t = times-here c cs in absurd (omega arith)
+
+pub thrice-ends : (k : ℕ) (cs : List ℕ) → NonePast k cs → ((d : ℕ) → times d cs ≤ 3) → length cs ≤ 3 * k
+thrice-ends k cs n h = let i = length-total k cs n in let t = total-le k cs h in omega arith
+
 -- each service is of one of the 32 cores
-length-total : (W : World) {l r : Lock} {cs : List ℕ} → Run W l cs r → length cs ≤ total 32 cs
-length-total W done = omega arith
-length-total W (then {c = c} {cs = cs} h o s) = let i = length-total W s in let t = total-one 32 c cs h in omega arith
+run-below : (W : World) {l r : Lock} {cs : List ℕ} → Run W l cs r → NonePast 32 cs
+run-below W done = none-past-nil 32
+run-below W (then {c = c} {cs = cs} h o s) = none-past-cons 32 c cs h (run-below W s)
 
 pub ends : (W : World) {l r : Lock} {cs : List ℕ} → Good W l → Run W l cs r → length cs ≤ 96
-ends W {cs = cs} G s = let i = length-total W s in let t = total-le 32 cs (thrice W G s) in omega arith
+ends W {cs = cs} G s = thrice-ends 32 cs (run-below W s) (thrice W G s)

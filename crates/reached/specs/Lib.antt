@@ -1,1 +1,10 @@
 pub mod Reached
+pub mod ByEvents
+pub mod Formed
+pub mod First
+pub mod WorldOf
+pub mod GoodReached
+pub mod EveryState
+pub mod Services
+pub mod Demand3
+pub mod AtRest

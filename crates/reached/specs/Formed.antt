@@ -1,0 +1,85 @@
+-- Every reached state is well formed, and its table is the accepted one.
+use Prim.Native.Nat.{ℕ, _≤_}
+use mathlib.Core.Bool.{true}
+use mathlib.Core.Path.{_≡_, refl, sym, ap, _∙_, subst}
+use native.Mathlib.Omega.{arith}
+use Rattle.table.specs.declared.Table.{Table}
+use Rattle.table.specs.Numbers.{maxCores, maxGangs, maxThreads}
+use Rattle.table.specs.Parts.{Sizes, empty, filled}
+use Rattle.table.specs.TableLaws.{cores-room, gangs-room, threads-room}
+use Rattle.table.specs.TableOk.{TableOk, table-ok}
+use Rattle.wire.specs.declared.event.Event.{Event}
+use Rattle.system.specs.declared.System.{System}
+use Rattle.system.specs.declared.events.Reply.{Reply}
+use Rattle.system.specs.System.{freshSystem}
+use Rattle.system.specs.Events.{stepOf, applyOf}
+use Rattle.system.specs.Shaped.{Shaped, fresh-shaped}
+use Rattle.system.specs.WellFormed.{wellFormed}
+use Rattle.system.specs.WellFormedLaws.{WellFormed, formed-well}
+use Rattle.system.specs.Leaves.{table-same}
+use Rattle.system.specs.Keeps.{fresh-formed}
+use Rattle.system.specs.Applied.{apply-well, apply-shaped, apply-keeps}
+use Rattle.reached.specs.Reached.{Accepted, Reached}
+use Rattle.reached.specs.ByEvents.{fresh-reached, kept-after, by-events}
+
+-- ---- well formed
+
+-- each list has its places, and the numbers fit
+pub reached-shaped : {s : System} → Reached s → Shaped s
+reached-shaped = by-events Shaped (λ s R e h. apply-shaped s e h) (λ b a. fresh-shaped b (a .shaped))
+
+-- "Well formed", as facts
+pub reached-formed : {s : System} → Reached s → WellFormed s
+reached-formed = by-events WellFormed (λ s R e w. apply-keeps s e (reached-shaped R) w) (λ b a. fresh-formed b (a .rules))
+
+-- and as the test
+pub reached-well : {s : System} → Reached s → wellFormed s ≡ true
+reached-well {s} R = formed-well s (reached-formed R)
+
+-- so an event at a reached state is never refused with 14: it is its own step
+pub reached-applies : {s : System} → Reached s → (e : Event) → applyOf s e ≡ stepOf s e
+reached-applies {s} R e = apply-well s e (reached-well R)
+
+-- ---- the table
+
+-- no event changes it
+pub reached-table : {s : System} (R : Reached s) → s .table ≡ R .table
+reached-table R = subst Same (R .reaches) (kept-after Same keeps (freshSystem (R .table)) (R .events) (fresh-reached (R .table) (R .accepted)) refl)
+  where
+    Same : System → Type 0
+    Same s = s .table ≡ R .table
+
+    keeps : (s : System) → Reached s → (e : Event) → Same s → Same (applyOf s e .system)
+    keeps s Q e p = ap (λ (x : Reply). x .system .table) (reached-applies Q e) ∙ table-same s e ∙ p
+
+-- so it is an accepted one
+pub reached-accepted : {s : System} → Reached s → Accepted (s .table)
+reached-accepted R = subst Accepted (sym (reached-table R)) (R .accepted)
+
+-- "1 to 32 cores, 1 to 32 gangs, room for 128 threads"
+some-gang : {c g t : ℕ} → Sizes c g t → 1 ≤ c → 1 ≤ g
+some-gang (empty p q r) l = absurd (omega arith)
+some-gang (filled p q r s u) l = r
+
+module _ (b : Table) (a : Accepted b) where
+  pub accepted-ok : TableOk b
+  accepted-ok = table-ok b (a .rules)
+
+  pub accepted-cores : (1 ≤ b .cores) × (b .cores ≤ maxCores)
+  accepted-cores = (a .filled, cores-room b accepted-ok)
+
+  pub accepted-gangs : (1 ≤ b .gangs) × (b .gangs ≤ maxGangs)
+  accepted-gangs = (some-gang (accepted-ok .sizes) (a .filled), gangs-room b accepted-ok)
+
+  pub accepted-threads : b .threads ≤ maxThreads
+  accepted-threads = threads-room b accepted-ok
+
+module _ {s : System} (R : Reached s) where
+  pub reached-cores : (1 ≤ s .table .cores) × (s .table .cores ≤ maxCores)
+  reached-cores = accepted-cores (s .table) (reached-accepted R)
+
+  pub reached-gangs : (1 ≤ s .table .gangs) × (s .table .gangs ≤ maxGangs)
+  reached-gangs = accepted-gangs (s .table) (reached-accepted R)
+
+  pub reached-threads : s .table .threads ≤ maxThreads
+  reached-threads = accepted-threads (s .table) (reached-accepted R)
