@@ -7,24 +7,20 @@ use Rattle.system.specs.declared.System.{System}
 use Rattle.system.specs.System.{freshSystem}
 use Rattle.system.specs.Events.{applyOf}
 use Rattle.reached.specs.Reached.{Accepted, after, Reached}
+use Rattle.reached.specs.Runs.{after-append}
 
 pub fresh-reached : (b : Table) → Accepted b → Reached (freshSystem b)
 unfolding after
 fresh-reached b a = record { table = b; accepted = a; events = []; reaches = refl }
 
--- one event more, at the end
-after-one-more : (s : System) (es : List Event) (e : Event) → after s (es ++ (e ∷ [])) ≡ applyOf (after s es) e .system
-unfolding after
-after-one-more s [] e = refl
-after-one-more s (x ∷ es) e = after-one-more (applyOf s x .system) es e
-
 -- "reached from an accepted table by any events": by one more, accepted or refused
 pub event-reached : {s : System} → Reached s → (e : Event) → Reached (applyOf s e .system)
+unfolding after
 event-reached R e = record {
   table = R .table;
   accepted = R .accepted;
   events = R .events ++ (e ∷ []);
-  reaches = after-one-more (freshSystem (R .table)) (R .events) e ∙ ap (λ (x : System). applyOf x e .system) (R .reaches);
+  reaches = after-append (freshSystem (R .table)) (R .events) (e ∷ []) ∙ ap (λ (x : System). applyOf x e .system) (R .reaches);
 }
 
 -- what every event keeps still holds after some events, and of every reached state where it holds of each fresh system

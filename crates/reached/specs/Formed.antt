@@ -13,24 +13,24 @@ use Rattle.system.specs.declared.System.{System}
 use Rattle.system.specs.declared.events.Reply.{Reply}
 use Rattle.system.specs.System.{freshSystem}
 use Rattle.system.specs.Events.{stepOf, applyOf}
-use Rattle.system.specs.Shaped.{Shaped, fresh-shaped}
+use Rattle.system.specs.Shaped.{Shaped}
 use Rattle.system.specs.WellFormed.{wellFormed}
 use Rattle.system.specs.WellFormedLaws.{WellFormed, formed-well}
 use Rattle.system.specs.Leaves.{table-same}
-use Rattle.system.specs.Keeps.{fresh-formed}
-use Rattle.system.specs.Applied.{apply-well, apply-shaped, apply-keeps}
+use Rattle.system.specs.Applied.{apply-well}
 use Rattle.reached.specs.Reached.{Accepted, Reached}
-use Rattle.reached.specs.ByEvents.{fresh-reached, kept-after, by-events}
+use Rattle.reached.specs.ByEvents.{fresh-reached, kept-after}
+use Rattle.reached.specs.Runs.{run-shaped, run-formed}
 
 -- ---- well formed
 
 -- each list has its places, and the numbers fit
 pub reached-shaped : {s : System} → Reached s → Shaped s
-reached-shaped = by-events Shaped (λ s R e h. apply-shaped s e h) (λ b a. fresh-shaped b (a .shaped))
+reached-shaped R = subst Shaped (R .reaches) (run-shaped (R .table) (R .accepted) (R .events))
 
 -- "Well formed", as facts
 pub reached-formed : {s : System} → Reached s → WellFormed s
-reached-formed = by-events WellFormed (λ s R e w. apply-keeps s e (reached-shaped R) w) (λ b a. fresh-formed b (a .rules))
+reached-formed R = subst WellFormed (R .reaches) (run-formed (R .table) (R .accepted) (R .events))
 
 -- and as the test
 pub reached-well : {s : System} → Reached s → wellFormed s ≡ true

@@ -1,6 +1,14 @@
 pub mod Reached
+pub mod History
+pub mod Runs
 pub mod ByEvents
+pub mod Read
 pub mod Formed
+pub mod Tallies
+pub mod Releases
+pub mod TrueSum
+pub mod Sums
+pub mod Allowed
 pub mod First
 pub mod WorldOf
 pub mod GoodReached

@@ -1,5 +1,5 @@
 -- "From any state reached from an accepted table by any events": the events one after the other, accepted or refused.
-use Prim.Native.Nat.{ℕ, _≤_}
+use Prim.Native.Nat.{_≤_}
 use mathlib.Core.Path.{_≡_}
 use mathlib.Core.Bool.{true}
 use mathlib.Core.List.{List, [], _∷_}

@@ -32,6 +32,8 @@ use Rattle.reading.specs.Known.{some-number, turn-known}
 pub record Sound (size : ℕ) (r : Reading) : Type 0 where
   -- accepted
   pub well-formed : r .number ≡ 0 → tableOk (r .table) ≡ true
+  pub built : r .number ≡ 0 → Building (r .table)
+  pub filled : r .number ≡ 0 → 1 ≤ r .table .cores
   pub whole : r .number ≡ 0 → r .place ≡ size
   -- refused: "the number, the record's place (for 8, the table's length) and the empty system"
   pub empty : (r .number ≡ 0 → ⊥) → r .table ≡ emptyTable
@@ -45,6 +47,8 @@ stopped b size at refusal l m =
     let n = some-number refusal in
     record {
       well-formed = λ e. absurd (omega arith);
+      built = λ e. absurd (omega arith);
+      filled = λ e. absurd (omega arith);
       whole = λ e. absurd (omega arith);
       empty = λ e. refl;
       known = omega arith;
@@ -59,6 +63,8 @@ module _ (b : Table) (size : ℕ) where
       rw e
       (record {
         well-formed = λ n. absurd (omega arith);
+        built = λ n. absurd (omega arith);
+        filled = λ n. absurd (omega arith);
         whole = λ n. refl;
         empty = λ n. refl;
         known = omega arith;
@@ -66,11 +72,13 @@ module _ (b : Table) (size : ℕ) where
         at-end = λ n. refl;
       })
 
-  accepted : tableOk b ≡ true → ending b ≡ Accepted → Sound size (ended b size)
-  accepted ok e =
+  accepted : Building b → 1 ≤ b .cores → tableOk b ≡ true → ending b ≡ Accepted → Sound size (ended b size)
+  accepted k l ok e =
       rw e
       (record {
         well-formed = λ n. ok;
+        built = λ n. k;
+        filled = λ n. l;
         whole = λ n. refl;
         empty = λ n. absurd (n refl);
         known = omega arith;
@@ -88,7 +96,7 @@ module _ (b : Table) (size : ℕ) where
       go false ex false ey true ez =
           let c : b .cores ≡ 0 → ⊥ = eqb-false (b .cores) 0 ex in
           let g : b .gangs ≡ 0 → ⊥ = eqb-false (b .gangs) 0 ey in
-          accepted (building-done b k (omega arith) (omega arith) ez) (ends-whole b c g ez)
+          accepted k (omega arith) (building-done b k (omega arith) (omega arith) ez) (ends-whole b c g ez)
 
 -- a turn keeps a table under construction
 turn-kept : (d : ℕ) (b : Table) (s : List ℕ) → Building b → Building (turnOf d b s .taken .table)
