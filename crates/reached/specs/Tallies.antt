@@ -18,6 +18,7 @@ use Rattle.wire.specs.declared.answer.Answer.the-variants.{Served, Skipped}
 use Rattle.wire.specs.declared.event.Event.{Event}
 use Rattle.wire.specs.declared.event.Event.the-variants as event
 use Rattle.wire.specs.Answer.{answerNumber}
+use Rattle.system.specs.Keeps.{below-last}
 use Rattle.system.specs.declared.System.{System}
 use Rattle.system.specs.declared.events.Reply.{Reply}
 use Rattle.system.specs.System.{numberIn}
@@ -53,9 +54,6 @@ module _ (s : System) (h : Shaped s) (w : WellFormed s) where
   abbrev Tells : ℕ → Event → Reply → Type 0
   Tells g e r = Told g (s .ledger) (r .system .ledger) (record { event = e; answer = r .answer })
 
-  below-last : (g : ℕ) → (numberIn s g ≡ lastNumber → ⊥) → numberIn s g < lastNumber
-  below-last g ne = let k = h .number-fits g in omega arith
-
   same : (g : ℕ) → SameAt (s .ledger) (s .ledger) g
   same g = record { same-number = refl; same-served = refl; same-skipped = refl; same-job = refl }
 
@@ -66,7 +64,7 @@ module _ (s : System) (h : Shaped s) (w : WellFormed s) where
       (λ g away. let e = ne-eqb d g (λ e. away (sym e)) in was-other e e refl (served-other (s .ledger) d g away))
     where
       here : WasServed (s .ledger) (servedOf (s .ledger) d) d
-      here = serve-raises (s .table .gangs) (s .ledger) d (h .ledger-sized) (w .releases) l (gangs-room (s .table) (w .table)) (below-last d ne)
+      here = serve-raises (s .table .gangs) (s .ledger) d (h .ledger-sized) (w .releases) l (gangs-room (s .table) (w .table)) (below-last s h w d ne)
 
   skipped-tells : (d : ℕ) → d < s .table .gangs → (numberIn s d ≡ lastNumber → ⊥) → (g : ℕ) → Tells g (event.Release d) (replyOf (skippedBy s d) (Skipped (numberIn (skippedBy s d) d)))
   skipped-tells d l ne =
@@ -75,7 +73,7 @@ module _ (s : System) (h : Shaped s) (w : WellFormed s) where
       (λ g away. let e = ne-eqb d g (λ e. away (sym e)) in was-other e refl e (skipped-other (s .ledger) d g away))
     where
       here : WasSkipped (s .ledger) (skippedOf (s .ledger) d) d
-      here = skip-raises (s .table .gangs) (s .ledger) d (h .ledger-sized) (w .releases) l (gangs-room (s .table) (w .table)) (below-last d ne)
+      here = skip-raises (s .table .gangs) (s .ledger) d (h .ledger-sized) (w .releases) l (gangs-room (s .table) (w .table)) (below-last s h w d ne)
 
   accepted-tells : (g : ℕ) {e : Event} {r : Reply} → Accepts s e r → Tells g e r
   accepted-tells g (serves-release {g = d} l ne q) = served-tells d l ne g

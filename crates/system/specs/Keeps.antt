@@ -58,7 +58,7 @@ sum-fits k n = omega arith
 module _ (s : System) (h : Shaped s) (w : WellFormed s) where
   -- RELEASE
 
-  below-last : (g : ℕ) → (numberIn s g ≡ lastNumber → ⊥) → numberIn s g < lastNumber
+  pub below-last : (g : ℕ) → (numberIn s g ≡ lastNumber → ⊥) → numberIn s g < lastNumber
   below-last g ne = let k = h .number-fits g in omega arith
 
   pub served-keeps : (g : ℕ) → g < s .table .gangs → (numberIn s g ≡ lastNumber → ⊥) → WellFormed (servedBy s g)
