@@ -68,9 +68,9 @@ pub fn make_ready(state: [u8; 128], gang: &[u8; 128], g: u8, n: u8) -> [u8; 128]
 {
     let mut next = state;
     for t in 0..n {
-        let at = t as usize;
-        if at < 128 {
+        if t < table::MAX_THREADS {
             if thread_at(gang, t) == g {
+                let at = t as usize;
                 next[at] = table::READY;
             }
         }

@@ -98,8 +98,8 @@ impl System {
         let lock = self.lock;
         let next = lock.owe(thread_at(&table.core, t));
         self.lock = next;
-        let at = t as usize;
-        if at < 128 {
+        if t < table::MAX_THREADS {
+            let at = t as usize;
             self.state[at] = v;
             self
         } else {
@@ -173,8 +173,8 @@ impl System {
     fn counted(mut self, c: u8, transactions: u32) -> System
         ensures { λ r. ⌜ r ≡ counted self c transactions ⌝ }
     {
-        let at = c as usize;
-        if at < 32 {
+        if c < table::MAX_CORES {
+            let at = c as usize;
             self.kept[at] = sum_of(self.kept[at], transactions);
         }
         self

@@ -73,8 +73,8 @@ make-ready-spec =
     Inv-loop
     μ-loop
     loop-holds
-    cast-at
     thread-at-requires
+    cast-at
     array-write-next
     add-t
     loop-less
