@@ -1,0 +1,4 @@
+-- Laws that the proofs of this crate's functions cite.
+pub mod Came
+pub mod Lent
+pub mod Sofar

@@ -1,0 +1,71 @@
+// Document 01: "A batch reads event records and writes one ANSWER each into the lent output".
+ghost use mathlib.Core.Path.{_≡_};
+ghost use lib.ListN.{length};
+ghost use Rattle.system.specs.Events.{stepOf};
+ghost use Rattle.wire.specs.Refusal.{numberOf};
+ghost use Rattle.batch.specs.Turn.{Came, batched, stopped};
+ghost use Rattle.batch.specs.Batch.{runOf, batchOf};
+use system::System;
+use wire::refusal::Refusal;
+
+mod turn;
+
+// What a batch comes to: the system, the bytes read and written, and the number it stopped with, 0 at the end of the events.
+pub struct Batched {
+    pub system: System,
+    pub read: usize,
+    pub written: usize,
+    pub number: u8,
+}
+
+// Reads event records and answers each in the lent output. The system is looked at once: every event keeps it well formed.
+pub fn batch(system: System, events: &[u8], out: &mut [u8]) -> Batched
+    ensures { λ r. ⌜ Came (batchOf system (now (events .entry)) (length (now (out .entry)))) (now (out .entry)) (now (out .exit)) r ⌝ }
+{
+    if system.well_formed() {
+        run(system, events, out)
+    } else {
+        stopped(system, Refusal::NotWellFormed)
+    }
+}
+
+// Nothing is read and nothing written.
+fn stopped(system: System, refusal: Refusal) -> Batched
+    ensures { λ r. ⌜ r ≡ batched (stopped system (numberOf refusal)) ⌝ }
+{
+    Batched {
+        system,
+        read: 0,
+        written: 0,
+        number: wire::refusal::number_of(refusal),
+    }
+}
+
+// Turn after turn, each on the events and the output that are left.
+fn run(mut system: System, events: &[u8], out: &mut [u8]) -> Batched
+    ensures { λ r. ⌜ Came (runOf stepOf (length (now (events .entry))) system (now (events .entry)) (length (now (out .entry)))) (now (out .entry)) (now (out .exit)) r ⌝ }
+{
+    let mut read: usize = 0;
+    let mut written: usize = 0;
+    while read < events.len() {
+        let turn = turn::take_turn(system, &events[read..], &mut out[written..]);
+        if turn.number != 0 {
+            return Batched {
+                system,
+                read,
+                written,
+                number: turn.number,
+            };
+        }
+        let next = turn.system;
+        system = next;
+        read += turn.read;
+        written += turn.written;
+    }
+    Batched {
+        system,
+        read,
+        written,
+        number: 0,
+    }
+}

@@ -1,0 +1,44 @@
+-- The listing looks for as many events as there are bytes, and more would list the same.
+use Prim.Native.Nat.{ℕ, zero, suc, _+_, _≤_}
+use mathlib.Core.Path.{_≡_, refl, sym, ap, _∙_}
+use mathlib.Core.List.{List, [], _++_}
+use mathlib.Core.Bool.{Bool, true, false, cond}
+use native.Mathlib.Omega.{arith}
+use lib.Dec.{eqb}
+use lib.ListN.{length, drop, length-drop}
+use borrow.Author.Tests.{eq-eqb, eqb-true, eqb-false}
+use Rattle.wire.specs.Event.{nextEvent}
+use Rattle.wire.specs.RecordLaws.{Within}
+use Rattle.wire.specs.declared.event.NextEvent.{NextEvent}
+use Rattle.wire.specs.declared.event.NextEvent.the-variants as found
+use Rattle.system.specs.declared.System.{System}
+use Rattle.system.specs.Events.{applyOf}
+use Rattle.lines.specs.Listing.{lineOf}
+use Rattle.listed.specs.Listed.{lineFor}
+use Rattle.listed.specs.ListedLaws.{event-within}
+use Rattle.listed.specs.ListingOf.{eventsSeen, eventsFrom}
+
+-- nothing is listed where no byte is left
+pub events-end : (n : ℕ) (s : System) (position at : ℕ) (bytes : List ℕ) → length bytes ≡ 0 → eventsFrom n s position at bytes ≡ []
+unfolding eventsFrom
+events-end zero s position at bytes e = refl
+events-end (suc n) s position at bytes e = rw (eq-eqb (length bytes) 0 e)
+
+-- m turns list what n turns do, where both are enough
+abbrev Enough : ℕ → ℕ → Type 0
+Enough n m = (s : System) (position at : ℕ) (bytes : List ℕ) → length bytes ≤ n → length bytes ≤ m → eventsFrom n s position at bytes ≡ eventsFrom m s position at bytes
+
+module _ (n m : ℕ) (rest : Enough n m) (s : System) (position at : ℕ) (bytes : List ℕ) (a : length bytes ≤ suc n) (b : length bytes ≤ suc m) where
+  seen-enough : (x : NextEvent) → nextEvent bytes ≡ x → eventsSeen (eventsFrom n) s position at bytes x ≡ eventsSeen (eventsFrom m) s position at bytes x
+  seen-enough (found.Event e next) f =
+      let w : Within bytes 0 next = event-within bytes e next f in
+      ap (λ (l : List ℕ). lineOf (lineFor position e (applyOf s e)) ++ l)
+      (rest (applyOf s e .system) (position + 1) (at + next) (drop next bytes) (simp length-drop (omega arith)) (simp length-drop (omega arith)))
+  seen-enough (found.Refused refusal) f = refl
+
+pub events-enough : (n m : ℕ) → Enough n m
+unfolding eventsFrom
+events-enough zero m s position at bytes a b = sym (events-end m s position at bytes (omega arith))
+events-enough (suc n) zero s position at bytes a b = events-end (suc n) s position at bytes (omega arith)
+events-enough (suc n) (suc m) s position at bytes a b =
+    ap (λ (l : List ℕ). cond (eqb (length bytes) 0) [] l) (seen-enough n m (events-enough n m) s position at bytes a b (nextEvent bytes) refl)

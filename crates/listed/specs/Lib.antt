@@ -1,0 +1,14 @@
+pub mod Start
+pub mod StartLaws
+pub mod Listed
+pub mod ListedLaws
+pub mod Shown
+pub mod Messages
+pub mod ListingOf
+pub mod Steps
+pub mod Enough
+pub mod Last
+pub mod WorkedInput
+pub mod WorkedText
+pub mod WorkedRest
+pub mod Worked

@@ -1,0 +1,60 @@
+-- The inputs of the worked table, record by record.
+use Prim.Native.Nat.{ℕ, _+_}
+use mathlib.Core.List.{List, [], _∷_, _++_}
+use lib.ListN.{length}
+use Rattle.wire.specs.Kinds.{kindCores, kindGang, kindThread, kindRelease, kindFinish, kindWake, kindServe, kindTraffic}
+use Rattle.wire.specs.Number.{two, four}
+
+-- "A record is a length (u16), a kind (u16), then a payload"; the "length counts kind and payload"
+abbrev bytesOf : ℕ → List ℕ → List ℕ
+bytesOf kind payload = two (2 + length payload) (two kind payload)
+
+abbrev cores : ℕ → List ℕ
+cores n = bytesOf kindCores (n ∷ [])
+
+abbrev gang : ℕ → ℕ → List ℕ
+gang priority budget = bytesOf kindGang (priority ∷ four budget [])
+
+abbrev thread : ℕ → ℕ → List ℕ
+thread g c = bytesOf kindThread (g ∷ c ∷ [])
+
+abbrev release : ℕ → List ℕ
+release g = bytesOf kindRelease (g ∷ [])
+
+abbrev finish : ℕ → List ℕ
+finish t = bytesOf kindFinish (t ∷ [])
+
+abbrev wake : ℕ → List ℕ
+wake t = bytesOf kindWake (t ∷ [])
+
+abbrev serve : ℕ → List ℕ
+serve c = bytesOf kindServe (c ∷ [])
+
+abbrev traffic : ℕ → ℕ → List ℕ
+traffic c n = bytesOf kindTraffic (c ∷ four n [])
+
+-- document 01, "Input: CORES 3; GANG 10, 100; .. WAKE 1"
+abbrev pub document01 : List ℕ
+document01 =
+    cores 3
+    ++ gang 10 100 ++ gang 20 0
+    ++ thread 0 0 ++ thread 0 1 ++ thread 1 2
+    ++ release 0 ++ serve 0 ++ traffic 2 100 ++ release 1 ++ serve 2 ++ serve 1 ++ release 0
+    ++ finish 0 ++ serve 0 ++ finish 2 ++ serve 2 ++ serve 1 ++ wake 1
+
+-- document 01, "Three services": "cores 0, 1, 2 owe; core 0 is locked for a finished gang of priority 30; cores 1 and 2 have ready
+-- threads of priority 10 and 20"
+abbrev allOwe : List ℕ
+allOwe =
+    cores 3
+    ++ gang 30 0 ++ gang 10 0 ++ gang 20 0
+    ++ thread 0 0 ++ thread 1 1 ++ thread 2 2
+    ++ release 0 ++ serve 0 ++ finish 0 ++ release 1 ++ release 2
+
+-- "Order 1, 0, 1, 2, 1"
+abbrev pub firstOrder : List ℕ
+firstOrder = allOwe ++ serve 1 ++ serve 0 ++ serve 1 ++ serve 2 ++ serve 1
+
+-- "Order 2, 1, 0, 2, 1"
+abbrev pub secondOrder : List ℕ
+secondOrder = allOwe ++ serve 2 ++ serve 1 ++ serve 0 ++ serve 2 ++ serve 1

@@ -1,0 +1,106 @@
+// Document 01, "The listing": where the events of an input start, and what one event prints.
+ghost use mathlib.Core.Path.{_≡_};
+ghost use Prim.Native.Nat.{_≤_};
+ghost use lib.ListN.{length};
+ghost use Rattle.listed.specs.Start.{splitAt, eventsStart};
+ghost use Rattle.listed.specs.Listed.{lineFor, textOf, listedOf};
+ghost use Rattle.listed.specs.Shown.{Shown};
+use lines::Line;
+use lines::ROOM;
+use system::Reply;
+use system::System;
+use wire::event::Event;
+use wire::event::NextEvent;
+use wire::kinds::Stream;
+use wire::record::HEADER;
+use wire::record::Seen;
+
+// The lowest kind that starts the events.
+pub const FIRST_EVENT_KIND: u16 = 16;
+
+// The most bytes of an input that is not too long.
+pub const MOST_BYTES: usize = 32768;
+
+// Where the events start, or the length of the bytes where none do.
+pub fn events_start(bytes: &[u8]) -> usize
+    ensures { λ r. ⌜ r ≡ eventsStart (now (bytes .entry)) ⌝ }
+{
+    let mut at: usize = 0;
+    while at < bytes.len() {
+        let seen = wire::record::record_at(Stream::Table, bytes, at);
+        let Seen::Record { kind: _, next } = seen else {
+            return split_at(bytes, at);
+        };
+        at = next;
+    }
+    bytes.len()
+}
+
+// Where the events start if no table record stands at a place: there, where its kind is an event's or above.
+fn split_at(bytes: &[u8], at: usize) -> usize
+    requires { ⌜ at ≤ length (now bytes) ⌝ }
+    ensures { λ r. ⌜ r ≡ splitAt (now (bytes .entry)) at ⌝ }
+{
+    if bytes.len() - at < HEADER {
+        return bytes.len();
+    }
+    if wire::number::u16_at(bytes, at + 2) < FIRST_EVENT_KIND {
+        bytes.len()
+    } else {
+        at
+    }
+}
+
+// What listing an event comes to: the system after it, how many bytes its record and its line take, and 0.
+// Where its record is refused: the system as it came, no bytes, and the refusal's number.
+pub struct Listed {
+    pub system: System,
+    pub size: usize,
+    pub length: usize,
+    pub number: u8,
+}
+
+// Applies the event at the start of the bytes left, and puts its line at the start of the text.
+pub fn list_event(system: System, position: u32, left: &[u8], text: &mut [u8; ROOM]) -> Listed
+    ensures { λ r. ⌜ r ≡ listedOf system position (now (left .entry)) ⌝ }
+    ensures { λ r. ⌜ Shown (textOf system position (now (left .entry))) (now (text .entry)) (now (text .exit)) (r .length) ⌝ }
+{
+    match wire::event::next_event(left) {
+        NextEvent::Event { event, next } => {
+            let reply = system.apply(event);
+            let length = lines::event_line(line_for(position, event, reply), text);
+            let after = reply.system;
+            Listed {
+                system: after,
+                size: next,
+                length,
+                number: 0,
+            }
+        }
+        NextEvent::Refused(refusal) => Listed {
+            system,
+            size: 0,
+            length: 0,
+            number: wire::refusal::number_of(refusal),
+        },
+    }
+}
+
+// What the line of an event says: its kind and its answer, and the sets and the holder of the system after it.
+fn line_for(position: u32, event: Event, reply: Reply) -> Line
+    ensures { λ r. ⌜ r ≡ lineFor position event reply ⌝ }
+{
+    let answer = reply.answer;
+    let system = reply.system;
+    let lock = system.lock;
+    Line {
+        position,
+        kind: wire::event::kind_of(event),
+        refusal: wire::answer::refusal_in(answer),
+        value: wire::answer::value_in(answer),
+        number: wire::answer::number_in(answer),
+        owing: lock.owing,
+        locked: lock.locked,
+        holder: lock.holder,
+    }
+}

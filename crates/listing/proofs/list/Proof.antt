@@ -1,0 +1,54 @@
+-- `listing::list` is safe: the events start within the bytes.
+use Prim.Native.Nat.{_≤_}
+use native.Mathlib.Omega.{arith}
+use denote.Ref.{now}
+use lib.ListN.{length, length-take}
+use Rattle.listed.specs.StartLaws.{start-inside}
+use borrow.Author.Needs.{needs}
+use Rattle.listing.proofs.list.Statement.{statement}
+use Rattle.listing.proofs.list.Tie as tie
+
+events-start-requires : tie.Need-events-start-requires
+events-start-requires c κs = tt
+
+within-bytes : (c : tie.After-events-start) → c .events-start .result ≤ length (now (c .before .before .args .bytes))
+within-bytes c = omega (arith, c .events-start .ensures, start-inside (now (c .before .before .args .bytes)))
+
+slice-aggregate-read-system : tie.Need-slice-aggregate-read-system
+slice-aggregate-read-system c = simp length-take (omega (arith, within-bytes (c .before)))
+
+read-system-requires : tie.Need-read-system-requires
+read-system-requires c κs = tt
+
+slice-aggregate-write-all : tie.Need-slice-aggregate-write-all
+slice-aggregate-write-all c = search needs
+
+write-all-requires : tie.Need-write-all-requires
+write-all-requires c κs = tt
+
+print-refusal-requires : tie.Need-print-refusal-requires
+print-refusal-requires c κs = tt
+
+returns : tie.Need-returns
+returns c = search needs
+
+list-events-requires : tie.Need-list-events-requires
+list-events-requires c κs =
+    (within-bytes (c .before .before .before .before), c .before .before .before .before .before .before .pre)
+
+returns-2 : tie.Need-returns-2
+returns-2 c = search needs
+
+pub list-spec : {M : Type 1} → statement M
+list-spec =
+    tie.close
+    (tie.spec
+    events-start-requires
+    slice-aggregate-read-system
+    read-system-requires
+    slice-aggregate-write-all
+    write-all-requires
+    print-refusal-requires
+    returns
+    list-events-requires
+    returns-2)
