@@ -4,7 +4,7 @@ use crate::show::run_from;
 use crate::show::run_in;
 use crate::show::started;
 
-pub fn traffic_about_the_budget() {
+pub(crate) fn traffic_about_the_budget() {
     // CORES 2; GANG 10 100; THREAD 0 0
     // then RELEASE 0; SERVE 0; TRAFFIC 1 99
     run(
@@ -49,7 +49,7 @@ pub fn traffic_about_the_budget() {
     );
 }
 
-pub fn last_cores() {
+pub(crate) fn last_cores() {
     // CORES 32; GANG 10 100; THREAD 0 31
     // then RELEASE 0; SERVE 31; SERVE 32
     run(
@@ -59,7 +59,7 @@ pub fn last_cores() {
     );
 }
 
-pub fn refused_6() {
+pub(crate) fn refused_6() {
     // CORES 2; GANG 10 100; THREAD 0 0
     // then RELEASE 1; FINISH 1; WAIT 1; WAKE 1; SERVE 2; TRAFFIC 2 0
     run(
@@ -83,7 +83,7 @@ pub fn refused_6() {
     );
 }
 
-pub fn refused_9_to_11() {
+pub(crate) fn refused_9_to_11() {
     // CORES 2; GANG 10 100; THREAD 0 0
     // then FINISH 0; WAIT 0; RELEASE 0; FINISH 0
     run(
@@ -128,7 +128,7 @@ pub fn refused_9_to_11() {
     );
 }
 
-pub fn unreadable() {
+pub(crate) fn unreadable() {
     // CORES 2; GANG 10 100; THREAD 0 0
     // then TICK; 3 bytes
     run(
@@ -160,7 +160,7 @@ pub fn unreadable() {
 }
 
 // The output's room: 13 comes once the record is whole, and an event that finds no room is neither applied nor read.
-pub fn room() {
+pub(crate) fn room() {
     let table = b"\x03\x00\x01\x00\x02\x07\x00\x02\x00\x0a\x64\x00\x00\x00\x04\x00\x03\x00\x00\x00";
     // RELEASE 0; SERVE 0
     let events = b"\x03\x00\x10\x00\x00\x03\x00\x14\x00\x00";
@@ -178,7 +178,7 @@ pub fn room() {
 }
 
 // What no bytes lead to: the last release number (12), and a system that is not well formed (14).
-pub fn by_a_call() {
+pub(crate) fn by_a_call() {
     // RELEASE 0; RELEASE 0
     let events = b"\x03\x00\x10\x00\x00\x03\x00\x10\x00\x00";
     let mut system = started(

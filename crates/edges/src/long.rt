@@ -3,7 +3,7 @@ ghost use mathlib.Core.Path.{_≡_};
 ghost use lib.ListN.{length};
 
 // CORES 1, then short GANGs of priority 1 to 32, then one of the priority given.
-pub fn gangs(last: u8) -> [u8; 170]
+pub(crate) fn gangs(last: u8) -> [u8; 170]
     ensures { λ r. ⌜ 170 ≡ length r ⌝ }
 {
     let mut bytes = [0u8; 170];
@@ -21,7 +21,7 @@ pub fn gangs(last: u8) -> [u8; 170]
 }
 
 // CORES 1, a short GANG of priority 10, then 128 THREADs of it on core 0, then one of the gang given.
-pub fn threads(last: u8) -> [u8; 784]
+pub(crate) fn threads(last: u8) -> [u8; 784]
     ensures { λ r. ⌜ 784 ≡ length r ⌝ }
 {
     let mut bytes = [0u8; 784];

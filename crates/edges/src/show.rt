@@ -21,7 +21,7 @@ fn end_line() {
 }
 
 // A table's number and place.
-pub fn table(name: &[u8], bytes: &[u8]) {
+pub(crate) fn table(name: &[u8], bytes: &[u8]) {
     let read = reading::read_table(bytes);
     io::write_all(STDOUT, name);
     io::write_all(STDOUT, b":");
@@ -79,26 +79,26 @@ fn batched(name: &[u8], done: Batched, out: &[u8]) {
 }
 
 // The fresh system of a table.
-pub fn started(table: &[u8]) -> System {
+pub(crate) fn started(table: &[u8]) -> System {
     let read = reading::read_system(table);
     let system = read.system;
     system
 }
 
 // A batch into the output given.
-pub fn run_in(name: &[u8], table: &[u8], events: &[u8], out: &mut [u8]) {
+pub(crate) fn run_in(name: &[u8], table: &[u8], events: &[u8], out: &mut [u8]) {
     let done = batch::batch(started(table), events, out);
     batched(name, done, out);
 }
 
 // A batch from a system, with room enough.
-pub fn run_from(name: &[u8], system: System, events: &[u8]) {
+pub(crate) fn run_from(name: &[u8], system: System, events: &[u8]) {
     let mut out = [0u8; 720];
     let done = batch::batch(system, events, &mut out);
     batched(name, done, &out);
 }
 
 // A batch from a table, with room enough.
-pub fn run(name: &[u8], table: &[u8], events: &[u8]) {
+pub(crate) fn run(name: &[u8], table: &[u8], events: &[u8]) {
     run_from(name, started(table), events);
 }

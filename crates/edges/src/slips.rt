@@ -1,7 +1,7 @@
 // "Where builders slip", and "Three services".
 use crate::show::run;
 
-pub fn all() {
+pub(crate) fn all() {
     // CORES 3; GANG 10 100; GANG 20 0; THREAD 0 0; THREAD 0 1; THREAD 1 2
     // then RELEASE 0; SERVE 0; SERVE 1; RELEASE 1; SERVE 2
     run(
@@ -39,7 +39,7 @@ pub fn all() {
     );
 }
 
-pub fn three_services() {
+pub(crate) fn three_services() {
     // CORES 3; GANG 30 0; GANG 10 0; GANG 20 0; THREAD 0 0; THREAD 1 1; THREAD 2 2
     // then RELEASE 0; SERVE 0; FINISH 0; RELEASE 1; RELEASE 2; SERVE 1; SERVE 0; SERVE 1; SERVE 2; SERVE 1
     run(

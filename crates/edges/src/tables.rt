@@ -1,7 +1,7 @@
 // Tables through the reader: the limits, the ends and the refusals 1 to 8.
 use crate::show::table;
 
-pub fn limits() {
+pub(crate) fn limits() {
     // CORES 1; GANG 10 1000000; THREAD 0 0
     table(
         b"budget 1,000,000",
@@ -53,7 +53,7 @@ pub fn limits() {
     );
 }
 
-pub fn ends() {
+pub(crate) fn ends() {
     // nothing
     table(b"an empty table", b"");
     // CORES 1
@@ -70,7 +70,7 @@ pub fn ends() {
     );
 }
 
-pub fn refused_1_to_3() {
+pub(crate) fn refused_1_to_3() {
     // CORES 1; GANG 10 100; THREAD 0 0; 3 bytes
     table(
         b"three bytes left",
@@ -98,7 +98,7 @@ pub fn refused_1_to_3() {
     );
 }
 
-pub fn refused_4_to_7() {
+pub(crate) fn refused_4_to_7() {
     // GANG 10 100; CORES 1
     table(
         b"GANG first",
@@ -129,7 +129,7 @@ pub fn refused_4_to_7() {
 }
 
 // The 33rd gang and the 129th thread are 5; one fewer is not.
-pub fn full() {
+pub(crate) fn full() {
     let gangs = crate::long::gangs(33);
     table(b"32 gangs and no thread", &gangs[..165]);
     table(b"a 33rd gang", &gangs);
@@ -138,7 +138,7 @@ pub fn full() {
     table(b"a 129th thread", &threads);
 }
 
-pub fn order() {
+pub(crate) fn order() {
     // CORES 1; CORES 0
     table(
         b"a second CORES of 0 is 4",
