@@ -1,11 +1,13 @@
 -- What list_event makes is what its definition says, where the event's record is found and where it is refused.
 use Prim.Native.Nat.{ℕ}
 use mathlib.Core.Path.{_≡_, refl, sym, ap, ap₂, _∙_}
-use mathlib.Core.List.{List, []}
+use mathlib.Core.List.{List}
 use native.Mathlib.Omega.{arith}
 use lib.ListN.{length}
-use Rattle.wire.specs.Event.{nextEvent}
+use Rattle.wire.specs.Answer.{recordOf}
+use Rattle.wire.specs.Event.{kindOf, nextEvent}
 use Rattle.wire.specs.Refusal.{numberOf}
+use Rattle.wire.specs.declared.answer.AnswerRecord.{AnswerRecord}
 use Rattle.wire.specs.declared.event.Event.{Event}
 use Rattle.wire.specs.declared.event.NextEvent.the-variants as found
 use Rattle.wire.specs.declared.refusal.Refusal.{Refusal}
@@ -17,10 +19,16 @@ use Rattle.lines.specs.Printed.{Printed}
 use Rattle.lines.specs.Put.{place}
 use Rattle.lines.specs.PutLaws.{place-none}
 use Rattle.lines.specs.declared.Line.{Line}
-use Rattle.listed.specs.Listed.{lineFor, textOf, listedOf}
+use Rattle.listed.specs.Listed.{lineWith, lineFor, textOf, listedOf}
 use Rattle.listed.specs.ListedLaws.{text-event, listed-event, text-refused, listed-refused}
 use Rattle.listed.specs.Shown.{Shown}
 use Rattle.listed.specs.declared.Listed.{Listed}
+
+-- the line of an event's kind, and of its answer beside the sets and the holder after it
+pub line-says : (position : ℕ) (e : Event) (r : Reply) {k : ℕ} {a : AnswerRecord} → k ≡ kindOf e
+    → a ≡ recordOf (r .answer) (r .system .lock .owing) (r .system .lock .locked)
+    → lineWith position k a (r .system .lock .holder) ≡ lineFor position e r
+line-says position e r p q = ap₂ (λ (k : ℕ) (a : AnswerRecord). lineWith position k a (r .system .lock .holder)) p q
 
 -- an event that was listed, and one that was not
 abbrev pub done : ℕ → System → ℕ → Listed

@@ -1,12 +1,12 @@
 -- The listing looks for as many events as there are bytes, and more would list the same.
 use Prim.Native.Nat.{ℕ, zero, suc, _+_, _≤_}
-use mathlib.Core.Path.{_≡_, refl, sym, ap, _∙_}
+use mathlib.Core.Path.{_≡_, refl, sym, ap}
 use mathlib.Core.List.{List, [], _++_}
-use mathlib.Core.Bool.{Bool, true, false, cond}
+use mathlib.Core.Bool.{cond}
 use native.Mathlib.Omega.{arith}
 use lib.Dec.{eqb}
 use lib.ListN.{length, drop, length-drop}
-use borrow.Author.Tests.{eq-eqb, eqb-true, eqb-false}
+use borrow.Author.Tests.{eq-eqb}
 use Rattle.wire.specs.Event.{nextEvent}
 use Rattle.wire.specs.RecordLaws.{Within}
 use Rattle.wire.specs.declared.event.NextEvent.{NextEvent}
@@ -26,10 +26,12 @@ events-end (suc n) s position at bytes e = rw (eq-eqb (length bytes) 0 e)
 
 -- m turns list what n turns do, where both are enough
 abbrev Enough : ℕ → ℕ → Type 0
-Enough n m = (s : System) (position at : ℕ) (bytes : List ℕ) → length bytes ≤ n → length bytes ≤ m → eventsFrom n s position at bytes ≡ eventsFrom m s position at bytes
+Enough n m = (s : System) (position at : ℕ) (bytes : List ℕ) → length bytes ≤ n → length bytes ≤ m
+    → eventsFrom n s position at bytes ≡ eventsFrom m s position at bytes
 
 module _ (n m : ℕ) (rest : Enough n m) (s : System) (position at : ℕ) (bytes : List ℕ) (a : length bytes ≤ suc n) (b : length bytes ≤ suc m) where
-  seen-enough : (x : NextEvent) → nextEvent bytes ≡ x → eventsSeen (eventsFrom n) s position at bytes x ≡ eventsSeen (eventsFrom m) s position at bytes x
+  seen-enough : (x : NextEvent) → nextEvent bytes ≡ x
+      → eventsSeen (eventsFrom n) s position at bytes x ≡ eventsSeen (eventsFrom m) s position at bytes x
   seen-enough (found.Event e next) f =
       let w : Within bytes 0 next = event-within bytes e next f in
       ap (λ (l : List ℕ). lineOf (lineFor position e (applyOf s e)) ++ l)

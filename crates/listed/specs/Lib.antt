@@ -3,6 +3,7 @@ pub mod StartLaws
 pub mod Listed
 pub mod ListedLaws
 pub mod Shown
+pub mod Text
 pub mod Messages
 pub mod ListingOf
 pub mod Steps

@@ -2,9 +2,10 @@
 use Prim.Native.Nat.{ℕ}
 use mathlib.Core.List.{List, []}
 use lib.ListN.{length}
-use Rattle.wire.specs.Answer.{answerRefusal, answerValue, answerNumber}
+use Rattle.wire.specs.Answer.{recordOf}
 use Rattle.wire.specs.Event.{kindOf, nextEvent}
 use Rattle.wire.specs.Refusal.{numberOf}
+use Rattle.wire.specs.declared.answer.AnswerRecord.{AnswerRecord}
 use Rattle.wire.specs.declared.event.Event.{Event}
 use Rattle.wire.specs.declared.event.NextEvent.{NextEvent}
 use Rattle.wire.specs.declared.event.NextEvent.the-variants as found
@@ -15,18 +16,23 @@ use Rattle.lines.specs.Listing.{lineOf}
 use Rattle.lines.specs.declared.Line.{Line}
 use Rattle.listed.specs.declared.Listed.{Listed}
 
--- "position from 1, kind, refusal, value, number, owing and locked .. , holder": the sets and the holder are those after the event
-abbrev pub lineFor : ℕ → Event → Reply → Line
-lineFor position e r = record {
+-- "position from 1, kind, refusal, value, number, owing and locked as eight hex digits, holder": an ANSWER and what it does not say
+abbrev pub lineWith : ℕ → ℕ → AnswerRecord → ℕ → Line
+lineWith position kind a holder = record {
   position = position;
-  kind = kindOf e;
-  refusal = answerRefusal (r .answer);
-  value = answerValue (r .answer);
-  number = answerNumber (r .answer);
-  owing = r .system .lock .owing;
-  locked = r .system .lock .locked;
-  holder = r .system .lock .holder;
+  kind = kind;
+  refusal = a .refusal;
+  value = a .value;
+  number = a .number;
+  owing = a .owing;
+  locked = a .locked;
+  holder = holder;
 }
+
+-- of an event and its reply: the sets and the holder are those after the event
+abbrev pub lineFor : ℕ → Event → Reply → Line
+lineFor position e r =
+    lineWith position (kindOf e) (recordOf (r .answer) (r .system .lock .owing) (r .system .lock .locked)) (r .system .lock .holder)
 
 -- the text of the event that was found: nothing where its record is refused
 abbrev pub textSeen : System → ℕ → NextEvent → List ℕ

@@ -1,12 +1,11 @@
 -- What listing an event comes to where its record is found and where it is refused, and which bytes it reads.
-use Prim.Native.Nat.{ℕ, _≤_}
+use Prim.Native.Nat.{ℕ}
 use mathlib.Core.Path.{_≡_, refl, ap, _∙_}
 use mathlib.Core.List.{List, []}
 use native.Mathlib.Omega.{arith}
 use Rattle.wire.specs.Event.{eventSeen, nextEvent}
 use Rattle.wire.specs.Record.{recordAt, payloadAt}
 use Rattle.wire.specs.RecordLaws.{Within, within}
-use Rattle.wire.specs.Refusal.{numberOf}
 use Rattle.wire.specs.declared.event.Event.{Event}
 use Rattle.wire.specs.declared.event.NextEvent.{NextEvent}
 use Rattle.wire.specs.declared.event.NextEvent.the-variants as found
@@ -54,7 +53,8 @@ event-within bytes e n = go (recordAt stream.Events bytes 0) refl
     go (seen.Refused refusal) p f = absurd (clash f)
 
 -- an event that is listed takes a whole record of the bytes left
-pub listed-within : (s : System) (position : ℕ) (bytes : List ℕ) → listedOf s position bytes .number ≡ 0 → Within bytes 0 (listedOf s position bytes .size)
+pub listed-within : (s : System) (position : ℕ) (bytes : List ℕ) → listedOf s position bytes .number ≡ 0
+    → Within bytes 0 (listedOf s position bytes .size)
 unfolding listedOf
 listed-within s position bytes = go (nextEvent bytes) refl
   where

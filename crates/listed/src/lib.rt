@@ -3,13 +3,12 @@ ghost use mathlib.Core.Path.{_≡_};
 ghost use Prim.Native.Nat.{_≤_};
 ghost use lib.ListN.{length};
 ghost use Rattle.listed.specs.Start.{splitAt, eventsStart};
-ghost use Rattle.listed.specs.Listed.{lineFor, textOf, listedOf};
+ghost use Rattle.listed.specs.Listed.{lineWith, textOf, listedOf};
 ghost use Rattle.listed.specs.Shown.{Shown};
 use lines::Line;
 use lines::ROOM;
-use system::Reply;
 use system::System;
-use wire::event::Event;
+use wire::answer::AnswerRecord;
 use wire::event::NextEvent;
 use wire::kinds::Stream;
 use wire::record::HEADER;
@@ -17,6 +16,9 @@ use wire::record::Seen;
 
 // The lowest kind that starts the events.
 pub const FIRST_EVENT_KIND: u16 = 16;
+
+// Where a record's kind stands, after its length.
+const KIND_AT: usize = 2;
 
 // The most bytes of an input that is not too long.
 pub const MOST_BYTES: usize = 32768;
@@ -36,7 +38,7 @@ pub fn events_start(bytes: &[u8]) -> usize
     bytes.len()
 }
 
-// Where the events start if no table record stands at a place: there, where its kind is an event's or above.
+// Where the events start if no table record stands at a place: there, where a kind starts the events, whatever its length.
 fn split_at(bytes: &[u8], at: usize) -> usize
     requires { ⌜ at ≤ length (now bytes) ⌝ }
     ensures { λ r. ⌜ r ≡ splitAt (now (bytes .entry)) at ⌝ }
@@ -44,7 +46,7 @@ fn split_at(bytes: &[u8], at: usize) -> usize
     if bytes.len() - at < HEADER {
         return bytes.len();
     }
-    if wire::number::u16_at(bytes, at + 2) < FIRST_EVENT_KIND {
+    if wire::number::u16_at(bytes, at + KIND_AT) < FIRST_EVENT_KIND {
         bytes.len()
     } else {
         at
@@ -68,12 +70,15 @@ pub fn list_event(system: System, position: u32, left: &[u8], text: &mut [u8; RO
     match wire::event::next_event(left) {
         NextEvent::Event { event, next } => {
             let reply = system.apply(event);
-            let length = lines::event_line(line_for(position, event, reply), text);
             let after = reply.system;
+            let lock = after.lock;
+            let answer = reply.answer;
+            let record = wire::answer::record_of(answer, lock.owing, lock.locked);
+            let line = line_of(position, wire::event::kind_of(event), record, lock.holder);
             Listed {
                 system: after,
                 size: next,
-                length,
+                length: lines::event_line(line, text),
                 number: 0,
             }
         }
@@ -86,21 +91,18 @@ pub fn list_event(system: System, position: u32, left: &[u8], text: &mut [u8; RO
     }
 }
 
-// What the line of an event says: its kind and its answer, and the sets and the holder of the system after it.
-fn line_for(position: u32, event: Event, reply: Reply) -> Line
-    ensures { λ r. ⌜ r ≡ lineFor position event reply ⌝ }
+// The line of an event's position, kind, answer and holder.
+fn line_of(position: u32, kind: u16, answer: AnswerRecord, holder: u8) -> Line
+    ensures { λ r. ⌜ r ≡ lineWith position kind answer holder ⌝ }
 {
-    let answer = reply.answer;
-    let system = reply.system;
-    let lock = system.lock;
     Line {
         position,
-        kind: wire::event::kind_of(event),
-        refusal: wire::answer::refusal_in(answer),
-        value: wire::answer::value_in(answer),
-        number: wire::answer::number_in(answer),
-        owing: lock.owing,
-        locked: lock.locked,
-        holder: lock.holder,
+        kind,
+        refusal: answer.refusal,
+        value: answer.value,
+        number: answer.number,
+        owing: answer.owing,
+        locked: answer.locked,
+        holder,
     }
 }

@@ -14,11 +14,12 @@ use Rattle.listed.specs.declared.Listed.{Listed}
 abbrev partFrom : ℕ → List ℕ → List ℕ
 partFrom at bytes = take (length bytes - at) (drop at bytes)
 
-pub turn : (s : System) (position at : ℕ) (bytes : List ℕ) (l : Listed) → l ≡ listedOf s position (partFrom at bytes) → l .number ≡ 0 → at ≤ length bytes
-    → Within bytes at (at + l .size)
+pub turn : (s : System) (position at : ℕ) (bytes : List ℕ) (l : Listed) → l ≡ listedOf s position (partFrom at bytes) → l .number ≡ 0
+    → at ≤ length bytes → Within bytes at (at + l .size)
 turn s position at bytes l e z inside =
     let listed = listedOf s position (partFrom at bytes) in
-    let w : Within (partFrom at bytes) 0 (listed .size) = listed-within s position (partFrom at bytes) (ap (λ (x : Listed). x .number) (sym e) ∙ z) in
+    let accepted : listed .number ≡ 0 = ap (λ (x : Listed). x .number) (sym e) ∙ z in
+    let w : Within (partFrom at bytes) 0 (listed .size) = listed-within s position (partFrom at bytes) accepted in
     let size : l .size ≡ listed .size = ap (λ (x : Listed). x .size) e in
     let part : length (partFrom at bytes) ≤ length bytes - at = simp (length-take, length-drop) (omega arith) in
     record { header = omega (arith, w .header); inside = omega (arith, w .inside) }

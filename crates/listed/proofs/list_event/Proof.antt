@@ -2,7 +2,7 @@
 use mathlib.Core.Path.{sym, _∙_}
 use borrow.Author.Needs.{needs}
 use denote.Ref.{now}
-use Rattle.listed.proofs.Shows.{done-listed, done-shown, denied-listed, denied-shown}
+use Rattle.listed.proofs.Shows.{line-says, done-listed, done-shown, denied-listed, denied-shown}
 use Rattle.listed.proofs.list_event.Statement.{statement}
 use Rattle.listed.proofs.list_event.Tie as tie
 
@@ -15,8 +15,14 @@ enum-known-event c = search needs
 apply-requires : tie.Need-apply-requires
 apply-requires c κs = tt
 
-line-for-requires : tie.Need-line-for-requires
-line-for-requires c κs = tt
+record-of-requires : tie.Need-record-of-requires
+record-of-requires c κs = tt
+
+kind-of-requires : tie.Need-kind-of-requires
+kind-of-requires c κs = tt
+
+line-of-requires : tie.Need-line-of-requires
+line-of-requires c κs = tt
 
 event-line-requires : tie.Need-event-line-requires
 event-line-requires c κs = tt
@@ -29,19 +35,23 @@ number-of-requires c κs = tt
 
 returns : tie.Need-returns
 returns c =
-    let line = c .before .before .before in
-    let reply = line .before in
+    let line = c .before .before in
+    let kind = line .before in
+    let answer = kind .before in
+    let reply = answer .before .before .before in
     let event = reply .before .before in
     let a = event .before .before .before .before .args in
-    let found = sym (event .before .before .next-event .ensures) ∙ event .event .given .1 in (
-      done-listed (a .system) (a .position) (now (a .left)) found (reply .apply .ensures) (line .line-for .ensures) (c .before .event-line .ensures),
-      done-shown (a .system) (a .position) (now (a .left)) found (reply .apply .ensures) (line .line-for .ensures) (c .before .event-line .ensures),
+    let found = sym (event .before .before .next-event .ensures) ∙ event .event .given .1 in
+    let its = line-says (a .position) (event .event .given .0 .0) (reply .apply .result) (kind .kind-of .ensures) (answer .record-of .ensures) in
+    let says = line .line-of .ensures ∙ its in (
+      done-listed (a .system) (a .position) (now (a .left)) found (reply .apply .ensures) says (c .event-line .ensures),
+      done-shown (a .system) (a .position) (now (a .left)) found (reply .apply .ensures) says (c .event-line .ensures),
     )
 
 returns-2 : tie.Need-returns-2
 returns-2 c =
     let refused = c .before .before in
-    let a = c .before .before .before .before .before .before .args in
+    let a = refused .before .before .before .before .args in
     let found = sym (refused .before .before .next-event .ensures) ∙ refused .refusal .given .1 in (
       denied-listed (a .system) (a .position) (now (a .left)) found (c .number-of .ensures),
       denied-shown (a .system) (a .position) (now (a .left)) found (now (a .text)),
@@ -54,7 +64,9 @@ list-event-spec =
     next-event-requires
     enum-known-event
     apply-requires
-    line-for-requires
+    record-of-requires
+    kind-of-requires
+    line-of-requires
     event-line-requires
     enum-known-refusal
     number-of-requires

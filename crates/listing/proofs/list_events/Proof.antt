@@ -10,6 +10,7 @@ use borrow.Author.Needs.{needs}
 use Rattle.listing.proofs.list_events.Statement.{statement}
 use Rattle.listing.proofs.list_events.Tie as tie
 
+-- t11 holds the eight bytes of "stopped "
 abbrev Inv-loop : tie.InvT-loop
 Inv-loop bytes start system₀ at₀ position₀ text₀ t11 system at position text =
     (at ≤ length bytes) × (position ≤ at + 1) × (length t11 ≡ 8)
