@@ -18,13 +18,11 @@ pub(crate) fn take_turn(system: System, events: &[u8], out: &mut [u8]) -> Batche
                 return crate::stopped(system, Refusal::NoRoom);
             }
             let reply = system.step(event);
-            let answer = reply.answer;
+            let outcome = reply.answer;
             let after = reply.system;
             let lock = after.lock;
-            wire::answer::write_answer(
-                out,
-                wire::answer::record_of(answer, lock.owing, lock.locked),
-            );
+            let answer = wire::answer::record_of(outcome, lock.owing, lock.locked);
+            wire::answer::write_answer(out, answer);
             Batched {
                 system: after,
                 read: next,

@@ -49,8 +49,8 @@ returns-2 c =
     let stepped = wrote .before .before .before .before .before in
     let k = stepped .before .before .before in
     let a = k .before .before .before .before .before .args in
-    came-answered stepOf (a .system) (now (a .events)) (now (a .out)) _ _ (stepped .step .result) (wrote .before .record-of .result) _
-    (sym (k .before .before .next-event .ensures) ∙ k .event .given .1) (stepped .before .if1 .left) (stepped .step .ensures) (wrote .before .record-of .ensures)
+    came-answered stepOf (a .system) (now (a .events)) (now (a .out)) _ _ (stepped .step .result) (wrote .before .before .record-of .result) _
+    (sym (k .before .before .next-event .ensures) ∙ k .event .given .1) (stepped .before .if1 .left) (stepped .step .ensures) (wrote .before .before .record-of .ensures)
     (wrote .write-answer .ensures .1)
 
 returns-3 : tie.Need-returns-3
