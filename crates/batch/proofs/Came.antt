@@ -1,6 +1,6 @@
 -- What a turn's code has in hand, where it stops and where it answers, is what the turn promises.
 use Prim.Native.Nat.{ℕ, _≤_}
-use mathlib.Core.Path.{_≡_, refl, sym, ap, _∙_}
+use mathlib.Core.Path.{_≡_, refl, _∙_}
 use mathlib.Core.List.{List, [], _∷_, _++_, append-nil}
 use native.Mathlib.Omega.{arith}
 use lib.ListN.{length, drop}
@@ -13,7 +13,7 @@ use Rattle.wire.specs.declared.answer.AnswerRecord.{AnswerRecord}
 use Rattle.wire.specs.declared.event.Event.{Event}
 use Rattle.wire.specs.declared.event.NextEvent.the-variants as found
 use Rattle.batch.specs.declared.Batched.{Batched}
-use Rattle.batch.specs.Turn.{Came, batched, stopped, answerTo, answered, turnOf}
+use Rattle.batch.specs.Turn.{Came, batched, stopped, answerTo, turnOf}
 use Rattle.batch.specs.TurnLaws.{Stops, turn-stops, turn-answers, answer-length, bytes-length}
 
 module _ (step : System → Event → Reply) (s : System) (ev out : List ℕ) where

@@ -5,21 +5,21 @@ use mathlib.Core.List.{List, _++_}
 use native.Mathlib.Nat.{sub-zero, sub-add-eq}
 use native.Mathlib.Omega.{arith}
 use borrow.Rule.Slice.PartMut.{putMid}
-use lib.ListN.{length, take, drop, length-append, length-drop}
+use lib.ListN.{length, take, drop, length-drop}
 use lib.Seq.{drop-drop, take-at, drop-at}
 use Rattle.system.specs.Events.{stepOf}
 use Rattle.system.specs.declared.System.{System}
 use Rattle.wire.specs.Answer.{answerSize}
 use Rattle.batch.specs.declared.Batched.{Batched}
 use Rattle.batch.specs.EventRecord.{event-taken}
-use Rattle.batch.specs.Turn.{Run, Came, wrote, written, batched, outputOf, stopped, answered, turnOf}
+use Rattle.batch.specs.Turn.{Run, Came, wrote, written, outputOf, stopped, answered, turnOf}
 use Rattle.batch.specs.TurnLaws.{Turned, stops, answers, turned, stops-some, bytes-length}
 use Rattle.batch.specs.Batch.{andThen, ended, runOf}
 use Rattle.batch.specs.AndThen.{then-assoc, then-first, then-stopped, written-then, output-then, output-length}
 use Rattle.batch.specs.Ran.{Ran, ends, halts, goes, run-is}
 use Rattle.batch.proofs.Lent.{tail-part, put-tail}
 
--- s is the system, read and wrote the places, out the output where the loop stands; ev and o are the bytes and the output handed in
+-- ev and o are the events and the output handed in; s, out, and the places at of ev and w of out are where the loop stands
 pub record Sofar (ev o : List ℕ) (total : Run) (s : System) (at w : ℕ) (out : List ℕ) : Type 0 where
   pub done : Run
   pub reads : done .read ≡ at
@@ -71,6 +71,7 @@ module _ {ev o : List ℕ} {total : Run} {s : System} {at w : ℕ} {out : List �
 module _ {ev o : List ℕ} {total : Run} {s : System} {at w : ℕ} {out : List ℕ} (f : Sofar ev o total s at w out) (more : at < length ev)
     {r : Batched} {last : List ℕ}
     (c : Came (turnOf stepOf s (take (length ev - at) (drop at ev)) (length (take (length out - w) (drop w out)))) (take (length out - w) (drop w out)) last r) where
+  -- the output after the turn
   abbrev then : List ℕ
   then = putMid w (length out - w) out last
 

@@ -1,14 +1,13 @@
 -- One run and then another: what they read and write together.
-use Prim.Native.Nat.{ℕ, _+_, _-_, _≤_}
-use mathlib.Core.Path.{_≡_, refl, sym, ap, _∙_}
-use mathlib.Core.List.{List, [], _++_, append-nil, append-assoc}
+use Prim.Native.Nat.{ℕ, _+_, _≤_}
+use mathlib.Core.Path.{_≡_, ap, _∙_}
+use mathlib.Core.List.{List, _++_, append-nil, append-assoc}
 use native.Mathlib.Nat.{zero-add, add-zero, add-assoc}
 use native.Mathlib.Omega.{arith}
 use lib.ListN.{length, drop, length-append, length-drop}
 use lib.Seq.{drop-drop}
 use Rattle.system.specs.declared.System.{System}
-use Rattle.batch.specs.declared.Batched.{Batched}
-use Rattle.batch.specs.Turn.{Run, bytesOf, wrote, written, batched, outputOf, stopped}
+use Rattle.batch.specs.Turn.{Run, wrote, written, outputOf, stopped}
 use Rattle.batch.specs.TurnLaws.{bytes-append}
 use Rattle.batch.specs.Batch.{andThen, ended}
 

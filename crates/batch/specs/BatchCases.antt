@@ -1,16 +1,15 @@
 -- A batch on a well-formed system and on any other.
 use Prim.Native.Nat.{ℕ}
 use mathlib.Core.Bool.{true, false}
-use mathlib.Core.Path.{_≡_, refl}
+use mathlib.Core.Path.{_≡_}
 use mathlib.Core.List.{List}
-use native.Mathlib.Omega.{arith}
 use lib.ListN.{length}
 use Rattle.system.specs.Events.{stepOf}
 use Rattle.system.specs.WellFormed.{wellFormed}
 use Rattle.system.specs.declared.System.{System}
 use Rattle.wire.specs.Refusal.{numberOf}
 use Rattle.wire.specs.declared.refusal.Refusal.the-variants.{NotWellFormed}
-use Rattle.batch.specs.Turn.{Run, stopped}
+use Rattle.batch.specs.Turn.{stopped}
 use Rattle.batch.specs.Batch.{runOf, batchOf}
 
 module _ (s : System) (ev : List ℕ) (room : ℕ) where

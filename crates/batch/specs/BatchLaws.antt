@@ -1,10 +1,10 @@
 -- Document 01's sentences on a batch, each a law of what `batch` gives.
-use Prim.Native.Nat.{ℕ, _+_, _*_, _-_, _≤_, _<_}
+use Prim.Native.Nat.{ℕ, _*_, _≤_, _<_}
 use mathlib.Core.Bool.{Bool, true, false}
-use mathlib.Core.Path.{_≡_, refl, sym, ap, _∙_, subst}
-use mathlib.Core.List.{List, [], _++_}
+use mathlib.Core.Path.{_≡_, refl, sym, ap, _∙_}
+use mathlib.Core.List.{List, []}
 use native.Mathlib.Omega.{arith}
-use lib.ListN.{length, getD, take, drop, length-take}
+use lib.ListN.{length, getD, take, length-take}
 use Rattle.system.specs.Events.{stepOf, applyOf}
 use Rattle.system.specs.Shaped.{Shaped}
 use Rattle.system.specs.WellFormed.{wellFormed}
@@ -16,11 +16,11 @@ use Rattle.wire.specs.declared.answer.AnswerRecord.{AnswerRecord}
 use Rattle.wire.specs.declared.event.Event.{Event}
 use Rattle.wire.specs.declared.refusal.Refusal.the-variants.{NotWellFormed}
 use Rattle.batch.specs.declared.Batched.{Batched}
-use Rattle.batch.specs.Turn.{Run, Came, wrote, written, batched, outputOf, stopped, answerTo}
-use Rattle.batch.specs.Batch.{andThen, ended, runOf, batchOf}
+use Rattle.batch.specs.Turn.{Run, Came, written, batched, outputOf, stopped, answerTo}
+use Rattle.batch.specs.Batch.{ended, runOf, batchOf}
 use Rattle.batch.specs.BatchCases.{batch-well, batch-ill}
 use Rattle.batch.specs.Bounds.{written-is, read-fits, written-fits}
-use Rattle.batch.specs.History.{eventsOf, systemAfter, answersTo, answers-length, answer-at}
+use Rattle.batch.specs.History.{eventsOf, systemAfter, answers-length, answer-at}
 use Rattle.batch.specs.Keeps.{Sound, ran-sound, ran-apply}
 use Rattle.batch.specs.Ran.{Ran, ends, ran, run-is}
 use Rattle.batch.specs.RanLaws.{Applies, ran-applies, StopsAt, ran-stops}
@@ -28,6 +28,10 @@ use Rattle.batch.specs.RanLaws.{Applies, ran-applies, StopsAt, ran-stops
 -- a promise allows one answer and one output
 pub one-outcome : (r : Run) (out : List ℕ) {x y : List ℕ} {b c : Batched} → Came r out x b → Came r out y c → (b ≡ c) × (x ≡ y)
 one-outcome r out p q = (one-answer (batched r) (p .told) (q .told), one-answer (outputOf r out) (p .output) (q .output))
+
+-- the events of the bytes that a batch reads
+abbrev pub eventsRead : System → List ℕ → ℕ → List Event
+eventsRead s ev room = eventsOf (take (batchOf s ev room .read) ev)
 
 module _ (s : System) (ev : List ℕ) (room : ℕ) where
   -- the batch
@@ -71,23 +75,21 @@ module _ (s : System) (ev : List ℕ) (room : ℕ) where
       pub batch-applies : b ≡ runOf applyOf (length ev) s ev room
       batch-applies = sym (run-is (ran-apply (ran-here well) sound) (length ev) (omega arith))
 
-      -- the system and the answers are those of the events read, one after the other
-      pub batch-events : Applies applyOf s (eventsOf (take (b .read) ev)) b
+      -- the system and the answers are those of the events read, one after the other: no batch stops applying after its first
+      pub batch-events : Applies applyOf s (eventsRead s ev room) b
       batch-events = ran-applies (ran-apply (ran-here well) sound) (length (take (b .read) ev)) (let f = batch-read-fits in simp length-take (omega arith))
 
-      abbrev read-events : List Event
-      read-events = eventsOf (take (b .read) ev)
-
-      pub batch-count : length (b .answers) ≡ length read-events
-      batch-count = ap length (batch-events .answers) ∙ answers-length applyOf s read-events
+      pub batch-count : length (b .answers) ≡ length (eventsRead s ev room)
+      batch-count = ap length (batch-events .answers) ∙ answers-length applyOf s (eventsRead s ev room)
 
       -- answer k is that of event k on the system after the k events before it
       pub batch-answer : (k : ℕ) → k < length (b .answers) → (a : AnswerRecord) (x : Event)
-          → getD (b .answers) k a ≡ answerTo (applyOf (systemAfter applyOf s (take k read-events)) (getD read-events k x))
+          → getD (b .answers) k a ≡ answerTo (applyOf (systemAfter applyOf s (take k (eventsRead s ev room))) (getD (eventsRead s ev room) k x))
       batch-answer k l a x =
-          ap (λ (as′ : List AnswerRecord). getD as′ k a) (batch-events .answers)
-          ∙ answer-at applyOf s read-events k (omega (arith, batch-count)) a x
+          ap (λ (xs : List AnswerRecord). getD xs k a) (batch-events .answers)
+          ∙ answer-at applyOf s (eventsRead s ev room) k (omega (arith, batch-count)) a x
 
+      -- and the system is well formed still
       pub batch-sound : Sound (b .system)
       batch-sound = ran-sound (ran-here well) sound
 

@@ -5,16 +5,15 @@ use mathlib.Core.Bool.{Bool, true, false, cond}
 use mathlib.Core.List.{List, _++_}
 use native.Mathlib.Omega.{arith}
 use lib.Dec.{ltb}
-use lib.ListN.{length, getD, take, drop, length-append, length-drop, List·getD-append}
+use lib.ListN.{length, drop, length-append, length-drop, List·getD-append}
 use lib.Seq.{take-append-le, drop-append-le}
 use borrow.Author.Tests.{le-ltb}
-use Rattle.wire.specs.Event.{eventOf, eventSeen, nextEvent}
+use Rattle.wire.specs.Event.{eventSeen, nextEvent}
 use Rattle.wire.specs.Kinds.{lengths, fitsIn, inStream}
 use Rattle.wire.specs.Record.{lengthAt, kindAt, left, recordAt, payloadOf, payloadAt}
-use Rattle.wire.specs.RecordLaws.{Within, within}
+use Rattle.wire.specs.RecordLaws.{within}
 use Rattle.wire.specs.Refusal.{numberOf}
 use Rattle.wire.specs.declared.event.Event.{Event}
-use Rattle.wire.specs.declared.event.NextEvent.{NextEvent}
 use Rattle.wire.specs.declared.event.NextEvent.the-variants as found
 use Rattle.wire.specs.declared.kinds.Stream.the-variants as stream
 use Rattle.wire.specs.declared.record.Seen.{Seen}

@@ -1,11 +1,10 @@
 -- What a run comes to, as a case to take apart: document 01's "It stops at 1, 2, 3, 13 or the end", and else one answer and a run on what is left.
-use Prim.Native.Nat.{ℕ, zero, suc, _+_, _-_, _≤_, _<_}
+use Prim.Native.Nat.{ℕ, zero, suc, _-_, _≤_, _<_}
 use mathlib.Core.Path.{_≡_, refl, sym, ap, _∙_, subst}
-use mathlib.Core.Bool.{Bool, true, false, cond}
-use mathlib.Core.List.{List, [], _∷_, _++_}
+use mathlib.Core.List.{List}
 use native.Mathlib.Omega.{arith}
 use native.Mathlib.Decide.{decLt}
-use lib.ListN.{length, drop, length-append, length-drop}
+use lib.ListN.{length, drop, length-drop}
 use borrow.Author.Tests.{eq-eqb, ne-eqb}
 use Rattle.system.specs.declared.System.{System}
 use Rattle.system.specs.declared.events.Reply.{Reply}
@@ -13,8 +12,8 @@ use Rattle.wire.specs.Answer.{answerSize}
 use Rattle.wire.specs.Event.{nextEvent}
 use Rattle.wire.specs.declared.event.Event.{Event}
 use Rattle.wire.specs.declared.event.NextEvent.the-variants as found
-use Rattle.batch.specs.EventRecord.{Taken, event-taken}
-use Rattle.batch.specs.Turn.{Run, written, stopped, answered, turnOf}
+use Rattle.batch.specs.EventRecord.{event-taken}
+use Rattle.batch.specs.Turn.{Run, stopped, answered}
 use Rattle.batch.specs.TurnLaws.{Stops, Turned, stops, answers, turned, turn-stops, turn-answers, stops-some, bytes-length}
 use Rattle.batch.specs.Batch.{andThen, ended, runOf}
 

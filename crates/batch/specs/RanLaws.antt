@@ -1,15 +1,14 @@
 -- What holds of every run: it applies the events of the bytes that it read, and it stops where document 01 says.
 use Prim.Native.Nat.{ℕ, zero, suc, _+_, _-_, _≤_, _<_}
-use mathlib.Core.Path.{_≡_, refl, sym, ap, ap₂, _∙_, subst}
+use mathlib.Core.Path.{_≡_, refl, sym, ap, _∙_}
 use mathlib.Core.Logic.{_⊎_, inl, inr, ⊎-elim}
-use mathlib.Core.List.{List, [], _∷_, _++_}
-use native.Mathlib.Nat.{zero-add, suc-add, add-zero, sub-zero, sub-add-eq}
+use mathlib.Core.List.{List, [], _∷_}
+use native.Mathlib.Nat.{zero-add, suc-add, sub-zero}
 use native.Mathlib.Omega.{arith}
 use lib.ListN.{length, take, drop, length-take, length-drop, take-append-drop}
 use lib.Seq.{take-all, drop-drop}
 use Rattle.system.specs.declared.System.{System}
 use Rattle.system.specs.declared.events.Reply.{Reply}
-use Rattle.wire.specs.Answer.{answerSize}
 use Rattle.wire.specs.Event.{nextEvent}
 use Rattle.wire.specs.Record.{recordAt}
 use Rattle.wire.specs.declared.answer.AnswerRecord.{AnswerRecord}
@@ -17,10 +16,8 @@ use Rattle.wire.specs.declared.event.Event.{Event}
 use Rattle.wire.specs.declared.event.NextEvent.{NextEvent}
 use Rattle.wire.specs.declared.event.NextEvent.the-variants as found
 use Rattle.batch.specs.EventRecord.{event-taken, event-shorter}
-use Rattle.batch.specs.Turn.{Run, written, answered, answerTo}
-use Rattle.batch.specs.TurnLaws.{Stops, bytes-length}
-use Rattle.batch.specs.Batch.{andThen}
-use Rattle.batch.specs.AndThen.{written-then}
+use Rattle.batch.specs.Turn.{Run, written, answerTo}
+use Rattle.batch.specs.TurnLaws.{Stops}
 use Rattle.batch.specs.Bounds.{room-left, read-fits}
 use Rattle.batch.specs.History.{andAfter, eventsIn, systemAfter, answersTo}
 use Rattle.batch.specs.Ran.{Ran, ends, halts, goes}

@@ -1,5 +1,5 @@
 -- One turn of a batch, in document 01's order: "four bytes left (1); 2; 3; whole record (1); 13; then" the event.
-use Prim.Native.Nat.{ℕ, _+_}
+use Prim.Native.Nat.{ℕ}
 use mathlib.Core.Path.{_≡_}
 use mathlib.Core.List.{List, [], _∷_, _++_}
 use mathlib.Core.Bool.{cond}

@@ -1,12 +1,10 @@
 -- The ways that a turn can go, as a case to take apart: it stops, or it answers one event.
-use Prim.Native.Nat.{ℕ, _+_, _-_, _*_, _≤_, _<_}
+use Prim.Native.Nat.{ℕ, _*_, _≤_, _<_}
 use mathlib.Core.Path.{_≡_, refl, sym, ap, _∙_}
-use mathlib.Core.Bool.{Bool, true, false, cond}
 use mathlib.Core.List.{List, [], _∷_, _++_, append-assoc}
 use native.Mathlib.Omega.{arith}
 use lib.Dec.{ltb}
-use lib.ListN.{length, drop, length-append, length-drop}
-use lib.Seq.{drop-drop}
+use lib.ListN.{length, length-append}
 use borrow.Author.Tests.{lt-ltb, le-ltb, ltb-true, ltb-false}
 use Rattle.ranges.specs.Logic.{either}
 use Rattle.system.specs.declared.System.{System}
@@ -20,7 +18,7 @@ use Rattle.wire.specs.declared.event.NextEvent.{NextEvent}
 use Rattle.wire.specs.declared.event.NextEvent.the-variants as found
 use Rattle.wire.specs.declared.refusal.Refusal.{Refusal}
 use Rattle.wire.specs.declared.refusal.Refusal.the-variants.{NoRoom}
-use Rattle.batch.specs.EventRecord.{OneToThree, event-refused}
+use Rattle.batch.specs.EventRecord.{event-refused}
 use Rattle.batch.specs.Turn.{Run, bytesOf, stopped, answered, turnWith, turnOf}
 
 -- the number that some bytes and some room stop a turn with
@@ -66,7 +64,7 @@ pub answer-length : (a : AnswerRecord) → length (answerBytes a) ≡ answerSize
 unfolding answerBytes
 answer-length a = refl
 
-pub bytes-length : (as′ : List AnswerRecord) → length (bytesOf as′) ≡ answerSize * length as′
+pub bytes-length : (xs : List AnswerRecord) → length (bytesOf xs) ≡ answerSize * length xs
 bytes-length [] = refl
 bytes-length (a ∷ rest) = simp length-append (omega (arith, answer-length a, bytes-length rest))
 

@@ -1,10 +1,10 @@
 -- A run on bytes that end with a record, and then one on the bytes that follow: together they are one run on both.
-use Prim.Native.Nat.{ℕ, _+_, _-_, _≤_}
-use mathlib.Core.Path.{_≡_, refl, sym, ap, _∙_, subst}
+use Prim.Native.Nat.{ℕ, _-_}
+use mathlib.Core.Path.{_≡_, refl}
 use mathlib.Core.List.{List, [], _∷_, _++_}
 use native.Mathlib.Nat.{sub-zero}
 use native.Mathlib.Omega.{arith}
-use lib.ListN.{length, drop}
+use lib.ListN.{length}
 use lib.Seq.{drop-append-le}
 use Rattle.system.specs.declared.System.{System}
 use Rattle.system.specs.declared.events.Reply.{Reply}

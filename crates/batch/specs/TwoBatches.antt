@@ -6,7 +6,6 @@ use mathlib.Core.Logic.{⊎-elim}
 use mathlib.Core.List.{List, _++_}
 use native.Mathlib.Omega.{arith}
 use lib.ListN.{length, drop}
-use Rattle.system.specs.Events.{stepOf}
 use Rattle.system.specs.Shaped.{Shaped}
 use Rattle.system.specs.WellFormed.{wellFormed}
 use Rattle.system.specs.declared.System.{System}

@@ -1,6 +1,5 @@
 -- `batch::turn::take_turn` meets its contract: the reader says which case of the turn holds, and the writer puts the one answer.
 use mathlib.Core.Path.{sym, _∙_}
-use native.Mathlib.Omega.{arith}
 use borrow.Author.Needs.{needs}
 use denote.Ref.{now}
 use Rattle.system.specs.Events.{stepOf}
