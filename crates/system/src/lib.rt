@@ -55,21 +55,24 @@ impl System {
         let table = self.table;
         let ledger = self.ledger;
         let lock = self.lock;
-        if table.well_formed() {
-            if state::rules::states_ok(&self.state, table.threads) {
-                if state::rules::counts_ok(&self.kept, table.cores) {
-                    if ledger.well_formed(table.gangs) {
-                        return lock.well_formed(
-                            table.cores,
-                            table.threads,
-                            table.gangs,
-                            &table.core,
-                            &table.gang,
-                        );
-                    }
-                }
-            }
+        if !table.well_formed() {
+            return false;
         }
-        false
+        if !state::rules::states_ok(&self.state, table.threads) {
+            return false;
+        }
+        if !state::rules::counts_ok(&self.kept, table.cores) {
+            return false;
+        }
+        if !ledger.well_formed(table.gangs) {
+            return false;
+        }
+        lock.well_formed(
+            table.cores,
+            table.threads,
+            table.gangs,
+            &table.core,
+            &table.gang,
+        )
     }
 }
