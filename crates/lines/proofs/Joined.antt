@@ -10,10 +10,10 @@ use Rattle.lines.specs.Chars.{lineFeed, places8, places16, places32, hex
 use Rattle.lines.specs.Put.{Put}
 use Rattle.lines.specs.PutLaws.{put-byte, put-put, put-length}
 use Rattle.lines.specs.Listing.{decimalOf, hexOf, holderOf, lineOf}
-use Rattle.lines.specs.Printed.{Printed}
+use Rattle.lines.specs.Shown.{Shown}
 use Rattle.lines.specs.declared.Line.{Line}
 
-pub joined : {line : Line} {o s1 s2 s3 s4 s5 s6 s7 s8 : List ℕ} {r1 r2 r3 r4 r5 r6 r7 r8 : ℕ} →
+pub joined : (line : Line) {o s1 s2 s3 s4 s5 s6 s7 s8 : List ℕ} {r1 r2 r3 r4 r5 r6 r7 r8 : ℕ} →
     length o ≡ room →
     Put (decimalOf places32 (line .position)) (places32 + 1) o s1 0 r1 →
     Put (decimalOf places16 (line .kind)) (places16 + 1) s1 s2 r1 r2 →
@@ -23,9 +23,9 @@ pub joined : {line : Line} {o s1 s2 s3 s4 s5 s6 s7 s8 : List ℕ} {r1 r2 r3 r4 r
     Put (hexOf (line .owing)) (hexPlaces + 1) s5 s6 r5 r6 →
     Put (hexOf (line .locked)) (hexPlaces + 1) s6 s7 r6 r7 →
     Put (holderOf (line .holder)) places8 s7 s8 r7 r8 →
-    Printed line o (set s8 r8 lineFeed) (r8 + 1)
+    Shown (lineOf line) o (set s8 r8 lineFeed) (r8 + 1)
 unfolding lineOf
-joined {s8 = s8} {r8 = r8} n p1 p2 p3 p4 p5 p6 p7 p8 =
+joined line {s8 = s8} {r8 = r8} n p1 p2 p3 p4 p5 p6 p7 p8 =
     let q2 = put-put p1 p2 (omega arith) in
     let q3 = put-put q2 p3 (omega arith) in
     let q4 = put-put q3 p4 (omega arith) in

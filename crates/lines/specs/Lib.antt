@@ -6,4 +6,4 @@ pub mod Put
 pub mod PutLaws
 pub mod Listing
 pub mod ListingLaws
-pub mod Printed
+pub mod Shown

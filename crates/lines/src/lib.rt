@@ -5,8 +5,8 @@ ghost use lib.ListN.{length};
 ghost use Rattle.lines.specs.Chars.{sixteen, places8, hexPlaces};
 ghost use Rattle.lines.specs.Number.{glyphOf, number};
 ghost use Rattle.lines.specs.Put.{Put};
-ghost use Rattle.lines.specs.Listing.{decimalOf, hexOf, holderOf};
-ghost use Rattle.lines.specs.Printed.{Printed};
+ghost use Rattle.lines.specs.Listing.{decimalOf, hexOf, holderOf, lineOf};
+ghost use Rattle.lines.specs.Shown.{Shown};
 
 const SPACE: u8 = b' ';
 
@@ -116,7 +116,7 @@ fn put_holder(out: &mut [u8], at: usize, holder: u8) -> usize
 
 // The line's text, at the start of out; how many bytes it takes.
 pub fn event_line(line: Line, out: &mut [u8; ROOM]) -> usize
-    ensures { λ r. ⌜ Printed line (now (out .entry)) (now (out .exit)) r ⌝ }
+    ensures { λ r. ⌜ Shown (lineOf line) (now (out .entry)) (now (out .exit)) r ⌝ }
 {
     let mut at = put_decimal(out, 0, line.position, PLACES_32);
     at = put_decimal(out, at, line.kind as u32, PLACES_16);

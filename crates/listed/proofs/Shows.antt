@@ -15,13 +15,11 @@ use Rattle.system.specs.declared.System.{System}
 use Rattle.system.specs.declared.events.Reply.{Reply}
 use Rattle.system.specs.Events.{applyOf}
 use Rattle.lines.specs.Listing.{lineOf}
-use Rattle.lines.specs.Printed.{Printed}
-use Rattle.lines.specs.Put.{place}
 use Rattle.lines.specs.PutLaws.{place-none}
+use Rattle.lines.specs.Shown.{Shown}
 use Rattle.lines.specs.declared.Line.{Line}
 use Rattle.listed.specs.Listed.{lineWith, lineFor, textOf, listedOf}
 use Rattle.listed.specs.ListedLaws.{text-event, listed-event, text-refused, listed-refused}
-use Rattle.listed.specs.Shown.{Shown}
 use Rattle.listed.specs.declared.Listed.{Listed}
 
 -- the line of an event's kind, and of its answer beside the sets and the holder after it
@@ -40,7 +38,7 @@ denied s n = record { system = s; size = 0; length = 0; number = n }
 module _ (s : System) (position : ℕ) (bytes : List ℕ) where
   -- the reply is the event's, the line says the reply, and the text is the line's
   module _ {e : Event} {next : ℕ} (f : nextEvent bytes ≡ found.Event e next) {r : Reply} (a : r ≡ applyOf s e)
-      {l : Line} (says : l ≡ lineFor position e r) {before after : List ℕ} {n : ℕ} (p : Printed l before after n) where
+      {l : Line} (says : l ≡ lineFor position e r) {before after : List ℕ} {n : ℕ} (p : Shown (lineOf l) before after n) where
     its-line : lineOf l ≡ lineOf (lineFor position e (applyOf s e))
     its-line = ap lineOf (says ∙ ap (lineFor position e) a)
 
@@ -53,12 +51,7 @@ module _ (s : System) (position : ℕ) (bytes : List ℕ) where
         ∙ sym (listed-event s position bytes e next f)
 
     pub done-shown : Shown (textOf s position bytes) before after n
-    done-shown = record {
-      count = p .count ∙ ap (length {A = ℕ}) its-text;
-      text = p .text ∙ ap (place before 0) its-text;
-      fits = p .fits;
-      part = p .part;
-    }
+    done-shown = rw (sym its-text) p
 
   -- nothing is put
   module _ {refusal : Refusal} (f : nextEvent bytes ≡ found.Refused refusal) where

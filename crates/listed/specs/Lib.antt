@@ -2,7 +2,6 @@ pub mod Start
 pub mod StartLaws
 pub mod Listed
 pub mod ListedLaws
-pub mod Shown
 pub mod Text
 pub mod Messages
 pub mod ListingOf

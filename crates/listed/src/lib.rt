@@ -2,9 +2,9 @@
 ghost use mathlib.Core.Path.{_≡_};
 ghost use Prim.Native.Nat.{_≤_};
 ghost use lib.ListN.{length};
+ghost use Rattle.lines.specs.Shown.{Shown};
 ghost use Rattle.listed.specs.Start.{splitAt, eventsStart};
 ghost use Rattle.listed.specs.Listed.{lineWith, textOf, listedOf};
-ghost use Rattle.listed.specs.Shown.{Shown};
 use lines::Line;
 use lines::ROOM;
 use system::System;

@@ -53,7 +53,7 @@ returns c =
     let refusal = value .before .before .before in
     let kind = refusal .before .before .before in
     let position = kind .before .before .before in
-    joined (omega (arith, position .before))
+    joined (position .before .before .args .line) (omega (arith, position .before))
     (position .put-decimal .ensures)
     (kind .put-decimal2 .ensures)
     (refusal .put-decimal3 .ensures)

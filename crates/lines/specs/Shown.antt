@@ -1,18 +1,18 @@
--- What list_event promises of the text that it is lent.
+-- What event_line promises of the bytes that it is lent.
 use Prim.Native.Nat.{ℕ, _≤_}
 use mathlib.Core.Path.{_≡_}
 use mathlib.Core.List.{List}
 use lib.ListN.{length, take}
 use Rattle.lines.specs.Put.{place}
 use Rattle.lines.specs.PutLaws.{take-start}
 
--- bs at the start, r bytes, with the bytes past them untouched; fits and part are what &text[..r] asks
+-- bs at the start, r bytes, with the bytes past them untouched; fits and part are what &out[..r] asks
 pub record Shown (bs before after : List ℕ) (r : ℕ) : Type 0 where
   pub count : r ≡ length bs
   pub text : after ≡ place before 0 bs
   pub fits : r ≤ length after
   pub part : r ≡ length (take r after)
 
--- &text[..r] is bs
+-- &out[..r] is bs
 pub shown-part : {bs before after : List ℕ} {r : ℕ} → Shown bs before after r → take r after ≡ bs
 shown-part {bs} {before} p = rw (p .count, p .text) (take-start before bs)
