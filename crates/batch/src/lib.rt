@@ -11,6 +11,7 @@ use wire::refusal::Refusal;
 mod turn;
 
 // What a batch comes to: the system, the bytes read and written, and the number it stopped with, 0 at the end of the events.
+#[repr(C)]
 pub struct Batched {
     pub system: System,
     pub read: usize,

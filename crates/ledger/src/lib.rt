@@ -12,6 +12,7 @@ pub const LAST_NUMBER: u32 = 4294967295;
 pub const PLACES: u8 = 32;
 
 // For each gang: the number of its last release, how many releases were served and skipped, and its current job's number.
+#[repr(C)]
 pub struct Ledger {
     pub number: [u32; 32],
     pub served: [u32; 32],

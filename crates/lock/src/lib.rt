@@ -7,6 +7,7 @@ ghost use Rattle.lock.specs.LockRules.{pins, lockOk};
 mod rules;
 
 // Who holds the lock, which cores are locked, blocked and owing, and each core's occupant.
+#[repr(C)]
 pub struct Lock {
     pub holder: u8,
     pub locked: u32,

@@ -32,6 +32,7 @@ pub fn read_table(bytes: &[u8]) -> Reading
 }
 
 // What reading comes to, as a system: a fresh one of the accepted table, or the empty system beside the refusal's number and place.
+#[repr(C)]
 pub struct SystemRead {
     pub system: System,
     pub number: u8,

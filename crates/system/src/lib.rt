@@ -17,6 +17,7 @@ pub use questions::Told;
 pub use questions::refusal_in;
 pub use questions::value_in;
 
+#[repr(C)]
 pub struct System {
     pub table: Table,
     // Each thread's state: finished, ready or waiting.

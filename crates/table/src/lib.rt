@@ -29,6 +29,7 @@ pub const READY: u8 = 1;
 pub const WAITING: u8 = 2;
 
 // Each gang's priority and budget, and each thread's gang and the core that it is pinned to.
+#[repr(C)]
 pub struct Table {
     pub cores: u8,
     pub gangs: u8,

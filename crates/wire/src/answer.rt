@@ -20,6 +20,7 @@ pub enum Answer {
 }
 
 // The fields of an ANSWER record.
+#[repr(C)]
 pub struct AnswerRecord {
     pub refusal: u8,
     pub value: u8,

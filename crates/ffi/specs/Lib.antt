@@ -1,0 +1,2 @@
+-- What the calls for C and Rust come to.
+pub mod Calls
