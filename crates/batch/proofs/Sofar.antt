@@ -87,13 +87,13 @@ module _ {ev o : List ℕ} {total : Run} {s : System} {at w : ℕ} {out : List �
   its-number : {t : Run} → Came t (drop w o) last r → r .number ≡ t .number
   its-number q = ap (λ (x : Batched). x .number) (q .told)
 
-  pub stops-here : (r .number ≡ 0 → ⊥) → Came total o then (record { system = s; read = at; written = w; number = r .number })
+  pub stops-here : (r .number ≡ 0 → ⊥) → Came total o then (record { system = r .system; read = at; written = w; number = r .number })
   stops-here z = go turns whole
     where
-      go : {t : Run} → Turns t → Came t (drop w o) last r → Came total o then (record { system = s; read = at; written = w; number = r .number })
+      go : {t : Run} → Turns t → Came t (drop w o) last r → Came total o then (record { system = r .system; read = at; written = w; number = r .number })
       go (stops {k = k} b) q =
           let h = halted f k (halts (simp length-drop (omega arith)) b) in
-          record { told = rw (its-number q) (h .told); output = back f (stopped s k) last (q .output) ∙ sym (f .holds) ∙ h .output }
+          record { told = rw (ap (λ (x : Batched). x .system) (q .told), its-number q) (h .told); output = back f (stopped s k) last (q .output) ∙ sym (f .holds) ∙ h .output }
       go (answers g l) q = absurd (z (its-number q))
 
   pub moves : r .number ≡ 0 → 0 < r .read

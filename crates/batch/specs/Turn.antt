@@ -15,7 +15,9 @@ use Rattle.wire.specs.declared.event.Event.{Event}
 use Rattle.wire.specs.declared.event.NextEvent.{NextEvent}
 use Rattle.wire.specs.declared.event.NextEvent.the-variants as found
 use Rattle.wire.specs.declared.refusal.Refusal.the-variants.{NoRoom}
+use Rattle.lock.specs.declared.Held.{Held}
 use Rattle.batch.specs.declared.Batched.{Batched}
+use Rattle.batch.specs.declared.turn.Turn.{Turn}
 
 -- "gives the system, bytes read, bytes written and the number (0 at the end)", the bytes written as the answers that they are
 pub record Run : Type 0 where
@@ -50,6 +52,13 @@ pub record Came (r : Run) (before after : List ℕ) (b : Batched) : Type 0 where
 -- nothing is read and nothing written
 abbrev pub stopped : System → ℕ → Run
 stopped s n = record { system = s; read = 0; answers = []; number = n }
+
+-- what a turn comes to, beside the system of the parts that it was lent
+abbrev pub turnedTo : System → Turn → Batched
+turnedTo s t = record { system = s; read = t .read; written = t .written; number = t .number }
+
+abbrev pub stoppedTurn : Held → ℕ → Turn
+stoppedTurn h n = record { held = h; read = 0; written = 0; number = n }
 
 -- the ANSWER to an event: the owing and the locked cores are those after it
 abbrev pub answerTo : Reply → AnswerRecord

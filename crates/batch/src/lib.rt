@@ -42,31 +42,55 @@ fn stopped(system: System, refusal: Refusal) -> Batched
     }
 }
 
-// Turn after turn, each on the events and the output that are left.
-fn run(mut system: System, events: &[u8], out: &mut [u8]) -> Batched
+// Every turn on the system's parts, which are lent, so that a turn copies none of them.
+fn run(system: System, events: &[u8], out: &mut [u8]) -> Batched
     ensures { λ r. ⌜ Came (runOf stepOf (length (now (events .entry))) system (now (events .entry)) (length (now (out .entry)))) (now (out .entry)) (now (out .exit)) r ⌝ }
 {
-    let mut read: usize = 0;
-    let mut written: usize = 0;
-    while read < events.len() {
-        let turn = turn::take_turn(system, &events[read..], &mut out[written..]);
-        if turn.number != 0 {
-            return Batched {
-                system,
-                read,
-                written,
-                number: turn.number,
-            };
-        }
-        let next = turn.system;
-        system = next;
-        read += turn.read;
-        written += turn.written;
-    }
+    let table = system.table;
+    let before = system.ledger;
+    let lock = system.lock;
+    let mut state = system.state;
+    let mut number = before.number;
+    let mut served = before.served;
+    let mut skipped = before.skipped;
+    let mut job = before.job;
+    let mut occupant = lock.occupant;
+    let mut kept = system.kept;
+    let turns = turn::take_turns(
+        table.cores,
+        table.gangs,
+        table.threads,
+        &table.priority,
+        &table.budget,
+        &table.gang,
+        &table.core,
+        &mut state,
+        &mut number,
+        &mut served,
+        &mut skipped,
+        &mut job,
+        lock.held(),
+        &mut occupant,
+        &mut kept,
+        events,
+        out,
+    );
+    let held = turns.held;
+    let after = System::of_parts(
+        table,
+        state,
+        number,
+        served,
+        skipped,
+        job,
+        held,
+        occupant,
+        kept,
+    );
     Batched {
-        system,
-        read,
-        written,
-        number: 0,
+        system: after,
+        read: turns.read,
+        written: turns.written,
+        number: turns.number,
     }
 }

@@ -4,6 +4,7 @@ use mathlib.Core.Bool.{cond}
 use lib.Dec.{eqb}
 use Rattle.wire.specs.Answer.{recordOf}
 use Rattle.wire.specs.Kinds.{kindRelease, kindFinish, kindWait, kindWake, kindServe, kindTraffic, kindTick}
+use Rattle.wire.specs.declared.answer.AnswerRecord.{AnswerRecord}
 use Rattle.wire.specs.declared.event.Event.the-variants as event
 use Rattle.wire.specs.declared.refusal.Refusal.the-variants.{WrongKind}
 use Rattle.system.specs.declared.System.{System}
@@ -17,9 +18,13 @@ use Rattle.ffi.specs.declared.events.Named.{Named}
 use Rattle.ffi.specs.declared.events.Named.the-variants as named
 use Rattle.ffi.specs.declared.questions.Found.{Found}
 
+-- the system after an event, beside its answer
+abbrev pub answeredBy : System → AnswerRecord → Answered
+answeredBy s a = record { system = s; answer = a }
+
 -- an answer as the fields of its record, with the owing and the locked cores after the event
 abbrev pub answeredOf : Reply → Answered
-answeredOf r = record { system = r .system; answer = recordOf (r .answer) (r .system .lock .owing) (r .system .lock .locked) }
+answeredOf r = answeredBy (r .system) (recordOf (r .answer) (r .system .lock .owing) (r .system .lock .locked))
 
 -- a question's refusal number and value
 abbrev pub foundIn : Told → Found

@@ -2,9 +2,8 @@
 ghost use mathlib.Core.Path.{_≡_};
 ghost use Rattle.table.specs.Numbers.{finished, waiting};
 ghost use Rattle.wire.specs.declared.refusal.Refusal.the-variants.{WrongKind};
-ghost use Rattle.system.specs.Events.{refusedBy, checked, releaseStep, leaveStep, wakeStep, serveStep, trafficStep, tickStep};
+ghost use Rattle.system.specs.Events.{refusedBy, checked, releaseStep, leaveStep, wakeStep, serveStep, trafficStep, tickStep, applyOf};
 ghost use Rattle.ffi.specs.Calls.{answeredOf, namedBy, appliedOf};
-use system::Reply;
 use system::System;
 use wire::answer::Answer;
 use wire::answer::AnswerRecord;
@@ -59,15 +58,56 @@ fn event_named(value: EventValue) -> Named
     }
 }
 
-// A reply with its answer as the fields of a record.
-fn reply_of(reply: Reply) -> Answered
-    ensures { λ r. ⌜ r ≡ answeredOf reply ⌝ }
+// Any event on the system's parts, which are lent, so that the event copies none of them.
+fn applied(system: System, event: Event) -> Answered
+    ensures { λ r. ⌜ r ≡ answeredOf (applyOf system event) ⌝ }
 {
-    let system = reply.system;
-    let outcome = reply.answer;
+    let table = system.table;
+    let before = system.ledger;
     let lock = system.lock;
-    let answer = wire::answer::record_of(outcome, lock.owing, lock.locked);
-    Answered { system, answer }
+    let mut state = system.state;
+    let mut number = before.number;
+    let mut served = before.served;
+    let mut skipped = before.skipped;
+    let mut job = before.job;
+    let mut occupant = lock.occupant;
+    let mut kept = system.kept;
+    let stepped = system::steps::apply(
+        table.cores,
+        table.gangs,
+        table.threads,
+        &table.priority,
+        &table.budget,
+        &table.gang,
+        &table.core,
+        &mut state,
+        &mut number,
+        &mut served,
+        &mut skipped,
+        &mut job,
+        lock.held(),
+        &mut occupant,
+        &mut kept,
+        event,
+    );
+    let outcome = stepped.answer;
+    let held = stepped.held;
+    let answer = wire::answer::record_of(outcome, held.owing, held.locked);
+    let after = System::of_parts(
+        table,
+        state,
+        number,
+        served,
+        skipped,
+        job,
+        held,
+        occupant,
+        kept,
+    );
+    Answered {
+        system: after,
+        answer,
+    }
 }
 
 // RELEASE a gang.
@@ -75,7 +115,7 @@ fn reply_of(reply: Reply) -> Answered
 pub extern "C" fn gjalvorn_release(system: System, gang: u8) -> Answered
     ensures { λ r. ⌜ r ≡ answeredOf (checked system (releaseStep system gang)) ⌝ }
 {
-    reply_of(system.release(gang))
+    applied(system, Event::Release(gang))
 }
 
 // FINISH a thread.
@@ -83,7 +123,7 @@ pub extern "C" fn gjalvorn_release(system: System, gang: u8) -> Answered
 pub extern "C" fn gjalvorn_finish(system: System, thread: u8) -> Answered
     ensures { λ r. ⌜ r ≡ answeredOf (checked system (leaveStep system thread finished)) ⌝ }
 {
-    reply_of(system.finish(thread))
+    applied(system, Event::Finish(thread))
 }
 
 // WAIT of a thread.
@@ -91,7 +131,7 @@ pub extern "C" fn gjalvorn_finish(system: System, thread: u8) -> Answered
 pub extern "C" fn gjalvorn_wait(system: System, thread: u8) -> Answered
     ensures { λ r. ⌜ r ≡ answeredOf (checked system (leaveStep system thread waiting)) ⌝ }
 {
-    reply_of(system.wait(thread))
+    applied(system, Event::Wait(thread))
 }
 
 // WAKE a thread.
@@ -99,7 +139,7 @@ pub extern "C" fn gjalvorn_wait(system: System, thread: u8) -> Answered
 pub extern "C" fn gjalvorn_wake(system: System, thread: u8) -> Answered
     ensures { λ r. ⌜ r ≡ answeredOf (checked system (wakeStep system thread)) ⌝ }
 {
-    reply_of(system.wake(thread))
+    applied(system, Event::Wake(thread))
 }
 
 // SERVE a core.
@@ -107,7 +147,7 @@ pub extern "C" fn gjalvorn_wake(system: System, thread: u8) -> Answered
 pub extern "C" fn gjalvorn_serve(system: System, core: u8) -> Answered
     ensures { λ r. ⌜ r ≡ answeredOf (checked system (serveStep system core)) ⌝ }
 {
-    reply_of(system.serve(core))
+    applied(system, Event::Serve(core))
 }
 
 // TRAFFIC from a core.
@@ -115,7 +155,7 @@ pub extern "C" fn gjalvorn_serve(system: System, core: u8) -> Answered
 pub extern "C" fn gjalvorn_traffic(system: System, core: u8, transactions: u32) -> Answered
     ensures { λ r. ⌜ r ≡ answeredOf (checked system (trafficStep system core transactions)) ⌝ }
 {
-    reply_of(system.traffic(core, transactions))
+    applied(system, Event::Traffic { core, transactions })
 }
 
 // TICK.
@@ -123,7 +163,7 @@ pub extern "C" fn gjalvorn_traffic(system: System, core: u8, transactions: u32) 
 pub extern "C" fn gjalvorn_tick(system: System) -> Answered
     ensures { λ r. ⌜ r ≡ answeredOf (checked system (tickStep system)) ⌝ }
 {
-    reply_of(system.tick())
+    applied(system, Event::Tick)
 }
 
 // Any event. A kind that is no event's is refused as a record of that kind is: 14 first, then 2.
@@ -132,22 +172,27 @@ pub extern "C" fn gjalvorn_apply(system: System, event: EventValue) -> Answered
     ensures { λ r. ⌜ r ≡ appliedOf system event ⌝ }
 {
     match event_named(event) {
-        Named::Event(known) => reply_of(system.apply(known)),
-        Named::Unknown => reply_of(unknown(system)),
+        Named::Event(known) => applied(system, known),
+        Named::Unknown => unknown(system),
     }
 }
 
-// The reply to an event of no known kind.
-fn unknown(system: System) -> Reply
-    ensures { λ r. ⌜ r ≡ checked system (refusedBy system WrongKind) ⌝ }
+// The answer to an event of no known kind.
+fn unknown(system: System) -> Answered
+    ensures { λ r. ⌜ r ≡ answeredOf (checked system (refusedBy system WrongKind)) ⌝ }
 {
-    let refusal = if system.well_formed() {
-        Refusal::WrongKind
+    if system.well_formed() {
+        refused(system, Refusal::WrongKind)
     } else {
-        Refusal::NotWellFormed
-    };
-    Reply {
-        system,
-        answer: Answer::Refused(refusal),
+        refused(system, Refusal::NotWellFormed)
     }
+}
+
+// The system as it came, beside a refusal.
+fn refused(system: System, refusal: Refusal) -> Answered
+    ensures { λ r. ⌜ r ≡ answeredOf (refusedBy system refusal) ⌝ }
+{
+    let lock = system.lock;
+    let answer = wire::answer::record_of(Answer::Refused(refusal), lock.owing, lock.locked);
+    Answered { system, answer }
 }

@@ -2,10 +2,15 @@
 use Prim.Native.Nat.{ℕ, _+_, _≤_, _<_}
 use mathlib.Core.Path.{_≡_}
 use mathlib.Core.Bool.{Bool, cond, _&&_}
+use mathlib.Core.List.{List}
 use lib.Dec.{eqb, leb, ltb}
 use Rattle.ranges.specs.Range.{every}
 use Rattle.ledger.specs.declared.Ledger.{Ledger}
 use Rattle.ledger.specs.Releases.{numberAt, servedAt, skippedAt, jobAt}
+
+-- the ledger of these parts
+abbrev pub ledgerOf : (number served skipped job : List ℕ) → Ledger
+ledgerOf number served skipped job = record { number = number; served = served; skipped = skipped; job = job }
 
 -- "job number at most the release number and served plus skipped equal to it"
 unfoldable pub countsAgree : ℕ → ℕ → ℕ → ℕ → Bool

@@ -1,9 +1,8 @@
 // Each gang's releases. Every release takes the next number, served or skipped, and a job carries the number of its own release.
 ghost use mathlib.Core.Path.{_≡_};
-ghost use Prim.Native.Nat.{_<_};
-ghost use lib.ListN.{getD};
-ghost use Rattle.ledger.specs.Releases.{raised, raisedAt, emptyLedger, servedOf, skippedOf};
-ghost use Rattle.ledger.specs.WellFormed.{countsAgree, allZero, placeOk, ledgerOk};
+ghost use lib.ListN.{getD, set};
+ghost use Rattle.ledger.specs.Releases.{raised, raisedAt, emptyLedger};
+ghost use Rattle.ledger.specs.WellFormed.{countsAgree, allZero, placeOk, ledgerOf, ledgerOk};
 
 // The last release number there is.
 pub const LAST_NUMBER: u32 = 4294967295;
@@ -32,54 +31,25 @@ impl Ledger {
             job: [0; 32],
         }
     }
+}
 
-    // Gang g's next release is served, and the job takes that number.
-    pub fn serve(mut self, g: u8) -> Ledger
-        ensures { λ r. ⌜ r ≡ servedOf self g ⌝ }
-    {
-        if g < PLACES {
-            let at = g as usize;
-            let number = raise(&mut self.number, at);
-            raise(&mut self.served, at);
-            self.job[at] = number;
-            self
-        } else {
-            self
-        }
+// Whether every place of the ledger of these parts obeys the rules for a table of so many gangs. Every place is tested, with no way
+// out before the last: so the tests run side by side.
+pub fn ledger_ok<'a>(
+    number: &'a [u32; 32],
+    served: &'a [u32; 32],
+    skipped: &'a [u32; 32],
+    job: &'a [u32; 32],
+    gangs: u8,
+) -> bool
+    ensures { λ r. ⌜ r ≡ ledgerOk gangs (ledgerOf (now (number .entry)) (now (served .entry)) (now (skipped .entry)) (now (job .entry))) ⌝ }
+{
+    let mut ok = true;
+    for g in 0..PLACES {
+        let at = g as usize;
+        ok = ok & place_ok(g < gangs, number[at], served[at], skipped[at], job[at]);
     }
-
-    // Gang g's next release is skipped: it takes its number all the same, and the job keeps its own.
-    pub fn skip(mut self, g: u8) -> Ledger
-        ensures { λ r. ⌜ r ≡ skippedOf self g ⌝ }
-    {
-        if g < PLACES {
-            let at = g as usize;
-            raise(&mut self.number, at);
-            raise(&mut self.skipped, at);
-            self
-        } else {
-            self
-        }
-    }
-
-    // Whether every place obeys the rules for a table of so many gangs.
-    pub fn well_formed(self, gangs: u8) -> bool
-        ensures { λ r. ⌜ r ≡ ledgerOk gangs self ⌝ }
-    {
-        for g in 0..PLACES {
-            let at = g as usize;
-            if !place_ok(
-                g < gangs,
-                self.number[at],
-                self.served[at],
-                self.skipped[at],
-                self.job[at],
-            ) {
-                return false;
-            }
-        }
-        true
-    }
+    ok
 }
 
 // What one of the lists has for gang g: 0 where it has no such place.
@@ -90,15 +60,49 @@ pub fn value_of(values: &[u32], g: u8) -> u32
     if at < values.len() { values[at] } else { 0 }
 }
 
-// The count at a place goes up by one, and is handed back.
-fn raise(counts: &mut [u32; 32], at: usize) -> u32
-    requires { ⌜ at < 32 ⌝ }
-    ensures given { λ r. ⌜ r ≡ raised (getD (now (counts .entry)) at 0) ⌝ }
-    ensures kept { λ _. ⌜ now (counts .exit) ≡ raisedAt (now (counts .entry)) at ⌝ }
+// One of the lists gets a value for gang g: a place that it has not changes nothing.
+pub fn set_value(values: &mut [u32], g: u8, value: u32)
+    ensures { λ _. ⌜ now (values .exit) ≡ set (now (values .entry)) g value ⌝ }
 {
-    let last = counts[at];
+    let at = g as usize;
+    if at < values.len() {
+        values[at] = value;
+    }
+}
+
+// Gang g's next release is served, and the job takes that number.
+pub fn serve<'a>(
+    number: &'a mut [u32; 32],
+    served: &'a mut [u32; 32],
+    job: &'a mut [u32; 32],
+    g: u8,
+)
+    ensures numbered { λ _. ⌜ now (number .exit) ≡ raisedAt (now (number .entry)) g ⌝ }
+    ensures counted { λ _. ⌜ now (served .exit) ≡ raisedAt (now (served .entry)) g ⌝ }
+    ensures carried { λ _. ⌜ now (job .exit) ≡ set (now (job .entry)) g (raised (getD (now (number .entry)) g 0)) ⌝ }
+{
+    let taken = raise(number, g);
+    raise(served, g);
+    set_value(job, g, taken);
+}
+
+// Gang g's next release is skipped: it takes its number all the same, and the job keeps its own.
+pub fn skip<'a>(number: &'a mut [u32; 32], skipped: &'a mut [u32; 32], g: u8)
+    ensures numbered { λ _. ⌜ now (number .exit) ≡ raisedAt (now (number .entry)) g ⌝ }
+    ensures counted { λ _. ⌜ now (skipped .exit) ≡ raisedAt (now (skipped .entry)) g ⌝ }
+{
+    raise(number, g);
+    raise(skipped, g);
+}
+
+// Gang g's count goes up by one, and is handed back.
+fn raise(counts: &mut [u32], g: u8) -> u32
+    ensures given { λ r. ⌜ r ≡ raised (getD (now (counts .entry)) g 0) ⌝ }
+    ensures kept { λ _. ⌜ now (counts .exit) ≡ raisedAt (now (counts .entry)) g ⌝ }
+{
+    let last = value_of(counts, g);
     let next = raised(last);
-    counts[at] = next;
+    set_value(counts, g, next);
     next
 }
 

@@ -1,11 +1,21 @@
 -- SERVE, sentence by sentence as document 01 has it: "SERVE core c, owing or not, in this order", (a), (b), (c).
 use Prim.Native.Nat.{ℕ}
 use mathlib.Core.Bool.{Bool, cond}
+use mathlib.Core.List.{List}
 use lib.Dec.{eqb, ltb}
 use lib.ListN.{set, replicate}
 use lib.Bits.{bitOr}
 use Rattle.coreset.specs.Set.{withCore, withoutCore, withinWidth}
+use Rattle.lock.specs.declared.Held.{Held}
 use Rattle.lock.specs.declared.Lock.{Lock}
+
+-- the holder and the core sets
+abbrev pub heldOf : (holder locked blocked owing : ℕ) → Held
+heldOf holder locked blocked owing = record { holder = holder; locked = locked; blocked = blocked; owing = owing }
+
+-- the lock of a holder and core sets, and of the occupants
+abbrev pub lockOf : Held → List ℕ → Lock
+lockOf h o = record { holder = h .holder; locked = h .locked; blocked = h .blocked; owing = h .owing; occupant = o }
 
 -- a fresh system's lock is free, with no core locked, blocked or owing and no occupant
 abbrev pub freeLock : Lock

@@ -1,10 +1,12 @@
 // The gang lock, and SERVE on it. It knows no table: who is first on a core, of which gang, and whether that gang is ahead of the holder, is handed in.
 ghost use mathlib.Core.Path.{_≡_};
-ghost use Prim.Native.Nat.{_<_};
-ghost use Rattle.lock.specs.Serve.{freeLock, answeredOf, freedOf, vacatedOf, settledOf, leftOf, takenOf, displacedOf, blockedOf, claimedOf, admittedOf, serveOf, oweOf};
-ghost use Rattle.lock.specs.LockRules.{pins, lockOk};
+ghost use mathlib.Core.List.{List};
+ghost use Prim.Native.Nat.{ℕ, _<_};
+ghost use Rattle.lock.specs.Serve.{freeLock, lockOf, answeredOf, freedOf, vacatedOf, settledOf, leftOf, takenOf, displacedOf, blockedOf, claimedOf, admittedOf, serveOf, oweOf};
 
 mod rules;
+
+pub use rules::lock_ok;
 
 // Who holds the lock, which cores are locked, blocked and owing, and each core's occupant.
 #[repr(C)]
@@ -14,6 +16,14 @@ pub struct Lock {
     pub blocked: u32,
     pub owing: u32,
     pub occupant: [u8; 32],
+}
+
+// A lock but for the occupants: what an event takes and hands back, while the occupants are lent.
+pub struct Held {
+    pub holder: u8,
+    pub locked: u32,
+    pub blocked: u32,
+    pub owing: u32,
 }
 
 impl Lock {
@@ -30,67 +40,56 @@ impl Lock {
         }
     }
 
+    // The lock without its occupants.
+    pub fn held(self) -> Held
+        ensures { λ r. ⌜ lockOf r (self .occupant) ≡ self ⌝ }
+    {
+        Held {
+            holder: self.holder,
+            locked: self.locked,
+            blocked: self.blocked,
+            owing: self.owing,
+        }
+    }
+}
+
+impl Held {
+    // The lock with these occupants.
+    pub fn with(self, occupant: [u8; 32]) -> Lock
+        ensures { λ r. ⌜ r ≡ lockOf self occupant ⌝ }
+    {
+        Lock {
+            holder: self.holder,
+            locked: self.locked,
+            blocked: self.blocked,
+            owing: self.owing,
+            occupant,
+        }
+    }
+
     // SERVE core c, where t is its first ready thread or NONE, g that thread's gang, ahead whether g is ahead of the holder.
-    pub fn serve(self, c: u8, t: u8, g: u8, ahead: bool) -> Lock
-        ensures { λ r. ⌜ r ≡ serveOf self c t g ahead ⌝ }
+    pub fn serve(self, occupant: &mut [u8; 32], c: u8, t: u8, g: u8, ahead: bool) -> Held
+        ensures { λ r. ⌜ lockOf r (now (occupant .exit)) ≡ serveOf (lockOf self (now (occupant .entry))) c t g ahead ⌝ }
     {
         if c < coreset::WIDTH {
-            self.answered(c).left(c).admitted(c, t, g, ahead)
+            let left = self.answered(c).left(occupant, c);
+            left.admitted(occupant, c, t, g, ahead)
         } else {
             self
         }
     }
 
     // Core c owes.
-    pub fn owe(mut self, c: u8) -> Lock
-        ensures { λ r. ⌜ r ≡ oweOf self c ⌝ }
+    pub fn owe(mut self, c: u8) -> Held
+        ensures { λ r. ⌜ ((o : List ℕ) → lockOf r o ≡ oweOf (lockOf self o) c) ⌝ }
     {
         self.owing = coreset::set(self.owing, c);
         self
     }
 
-    // Whether the lock is well formed, against how many cores, threads and gangs there are, and each thread's core and gang.
-    pub fn well_formed<'a>(
-        self,
-        cores: u8,
-        threads: u8,
-        gangs: u8,
-        core: &'a [u8; 128],
-        gang: &'a [u8; 128],
-    ) -> bool
-        ensures { λ r. ⌜ r ≡ lockOk (pins cores threads gangs (now (core .entry)) (now (gang .entry))) self ⌝ }
-    {
-        if !rules::held_ok(gangs, self.holder, self.locked) {
-            return false;
-        }
-        if !rules::idle_ok(self.holder, self.blocked) {
-            return false;
-        }
-        let named = self.locked | self.blocked | self.owing;
-        for c in 0..coreset::WIDTH {
-            let place = c as usize;
-            let t = self.occupant[place];
-            if !rules::sets_ok(cores, c, coreset::test(named, c)) {
-                return false;
-            }
-            if !rules::pinned_ok(cores, threads, c, t, rules::at(core, t)) {
-                return false;
-            }
-            if !rules::ours_ok(
-                self.holder,
-                coreset::test(self.locked, c),
-                t,
-                rules::at(gang, t),
-            ) {
-                return false;
-            }
-        }
-        true
-    }
-
     // Step (a): c no longer owes and is no longer blocked.
-    fn answered(mut self, c: u8) -> Lock
-        ensures { λ r. ⌜ r ≡ answeredOf self c ⌝ }
+    fn answered(mut self, c: u8) -> Held
+        ensures { λ r. ⌜ ((o : List ℕ) → lockOf r o ≡ answeredOf (lockOf self o) c) ⌝ }
     {
         self.owing = coreset::clear(self.owing, c);
         self.blocked = coreset::clear(self.blocked, c);
@@ -98,34 +97,34 @@ impl Lock {
     }
 
     // Step (b): c gives up the lock, and where it was the last the lock is free.
-    fn left(self, c: u8) -> Lock
+    fn left(self, occupant: &mut [u8; 32], c: u8) -> Held
         requires { ⌜ c < 32 ⌝ }
-        ensures { λ r. ⌜ r ≡ leftOf self c ⌝ }
+        ensures { λ r. ⌜ lockOf r (now (occupant .exit)) ≡ leftOf (lockOf self (now (occupant .entry))) c ⌝ }
     {
-        self.vacated(c).settled()
+        self.vacated(occupant, c).settled()
     }
 
     // Step (b), for c itself: it is not locked, and has no occupant.
-    fn vacated(mut self, c: u8) -> Lock
+    fn vacated(mut self, occupant: &mut [u8; 32], c: u8) -> Held
         requires { ⌜ c < 32 ⌝ }
-        ensures { λ r. ⌜ r ≡ vacatedOf self c ⌝ }
+        ensures { λ r. ⌜ lockOf r (now (occupant .exit)) ≡ vacatedOf (lockOf self (now (occupant .entry))) c ⌝ }
     {
         let at = c as usize;
         self.locked = coreset::clear(self.locked, c);
-        self.occupant[at] = coreset::NONE;
+        occupant[at] = coreset::NONE;
         self
     }
 
     // Step (b), for the others: where no core is locked, the lock is free.
-    fn settled(self) -> Lock
-        ensures { λ r. ⌜ r ≡ settledOf self ⌝ }
+    fn settled(self) -> Held
+        ensures { λ r. ⌜ ((o : List ℕ) → lockOf r o ≡ settledOf (lockOf self o)) ⌝ }
     {
         if self.locked == 0 { self.freed() } else { self }
     }
 
     // The lock is free, every blocked core owes and none is blocked.
-    fn freed(mut self) -> Lock
-        ensures { λ r. ⌜ r ≡ freedOf self ⌝ }
+    fn freed(mut self) -> Held
+        ensures { λ r. ⌜ ((o : List ℕ) → lockOf r o ≡ freedOf (lockOf self o)) ⌝ }
     {
         self.holder = coreset::NONE;
         self.owing = self.owing | self.blocked;
@@ -134,50 +133,50 @@ impl Lock {
     }
 
     // Step (c): c's first ready thread t of gang g, or NONE, is let in.
-    fn admitted(self, c: u8, t: u8, g: u8, ahead: bool) -> Lock
+    fn admitted(self, occupant: &mut [u8; 32], c: u8, t: u8, g: u8, ahead: bool) -> Held
         requires { ⌜ c < 32 ⌝ }
-        ensures { λ r. ⌜ r ≡ admittedOf self c t g ahead ⌝ }
+        ensures { λ r. ⌜ lockOf r (now (occupant .exit)) ≡ admittedOf (lockOf self (now (occupant .entry))) c t g ahead ⌝ }
     {
         if t == coreset::NONE {
             self
         } else {
-            self.claimed(c, t, g, ahead)
+            self.claimed(occupant, c, t, g, ahead)
         }
     }
 
     // Step (c), where there is a thread t: its gang takes the lock, shares it, seizes it, or c is blocked.
-    fn claimed(self, c: u8, t: u8, g: u8, ahead: bool) -> Lock
+    fn claimed(self, occupant: &mut [u8; 32], c: u8, t: u8, g: u8, ahead: bool) -> Held
         requires { ⌜ c < 32 ⌝ }
-        ensures { λ r. ⌜ r ≡ claimedOf self c t g ahead ⌝ }
+        ensures { λ r. ⌜ lockOf r (now (occupant .exit)) ≡ claimedOf (lockOf self (now (occupant .entry))) c t g ahead ⌝ }
     {
         if self.holder == coreset::NONE {
-            return self.taken(c, t, g);
+            return self.taken(occupant, c, t, g);
         }
         if self.holder == g {
-            return self.taken(c, t, g);
+            return self.taken(occupant, c, t, g);
         }
         if ahead {
-            self.displaced().taken(c, t, g)
+            self.displaced().taken(occupant, c, t, g)
         } else {
             self.block(c)
         }
     }
 
     // Gang g holds the lock, c is locked, thread t is its occupant.
-    fn taken(mut self, c: u8, t: u8, g: u8) -> Lock
+    fn taken(mut self, occupant: &mut [u8; 32], c: u8, t: u8, g: u8) -> Held
         requires { ⌜ c < 32 ⌝ }
-        ensures { λ r. ⌜ r ≡ takenOf self c t g ⌝ }
+        ensures { λ r. ⌜ lockOf r (now (occupant .exit)) ≡ takenOf (lockOf self (now (occupant .entry))) c t g ⌝ }
     {
         let at = c as usize;
         self.holder = g;
         self.locked = coreset::set(self.locked, c);
-        self.occupant[at] = t;
+        occupant[at] = t;
         self
     }
 
     // Every locked core owes and is unlocked; its occupant stays until it is served.
-    fn displaced(mut self) -> Lock
-        ensures { λ r. ⌜ r ≡ displacedOf self ⌝ }
+    fn displaced(mut self) -> Held
+        ensures { λ r. ⌜ ((o : List ℕ) → lockOf r o ≡ displacedOf (lockOf self o)) ⌝ }
     {
         self.owing = self.owing | self.locked;
         self.locked = 0;
@@ -185,9 +184,9 @@ impl Lock {
     }
 
     // Core c is blocked.
-    fn block(mut self, c: u8) -> Lock
+    fn block(mut self, c: u8) -> Held
         requires { ⌜ c < 32 ⌝ }
-        ensures { λ r. ⌜ r ≡ blockedOf self c ⌝ }
+        ensures { λ r. ⌜ ((o : List ℕ) → lockOf r o ≡ blockedOf (lockOf self o) c) ⌝ }
     {
         self.blocked = coreset::set(self.blocked, c);
         self

@@ -8,11 +8,14 @@ use lib.Seq.{take-all, drop-drop}
 use Rattle.table.specs.declared.Table.{Table}
 use Rattle.table.specs.Rules.{emptyTable}
 use Rattle.wire.specs.RecordLaws.{Within}
+use Rattle.wire.specs.Table.{nextTableRecord}
 use Rattle.wire.specs.declared.refusal.Refusal.{Refusal}
+use Rattle.wire.specs.declared.table_record.TableRecord.{TableRecord}
+use Rattle.wire.specs.declared.table_record.NextTableRecord.the-variants as found
 use Rattle.reading.specs.declared.rules.Verdict.{Verdict}
 use Rattle.reading.specs.declared.rules.Verdict.the-variants.{Accepted, Refused}
-use Rattle.reading.specs.declared.turn.Turn.{Turn}
-use Rattle.reading.specs.Turn.{turnOf}
+use Rattle.reading.specs.Taken.{Taken, refused, taken}
+use Rattle.reading.specs.Turn.{Turn, turnWith, turnOf}
 use Rattle.reading.specs.TurnLaws.{turn-within}
 use Rattle.reading.specs.Reading.{told, ended, readOn, readingOf}
 use Rattle.reading.specs.ReadingLaws.{read-end, read-stop, read-go}
@@ -25,17 +28,31 @@ pub record Sofar (d : ℕ) (s : List ℕ) (b : Table) (at : ℕ) : Type 0 where
   pub rest : readingOf d s ≡ readOn turns d b at (drop at s)
 
 -- at first
-pub start : (d : ℕ) (s : List ℕ) (b : Table) → b ≡ emptyTable → Sofar d s b 0
-start d s b e = record {
+pub start : (d : ℕ) (s : List ℕ) → Sofar d s emptyTable 0
+start d s = record {
   turns = length s;
   inside = omega arith;
   enough = omega arith;
-  rest = rw e;
+  rest = refl;
 }
 
 -- at the end
 pub ends : (d : ℕ) (s : List ℕ) (b : Table) (at : ℕ) → Sofar d s b at → length s ≤ at → ended b at ≡ readingOf d s
 ends d s b at f l = sym (f .rest ∙ read-end d b at (drop at s) (f .turns) (simp length-drop (omega arith)))
+
+-- ---- the turn that what the record question finds makes up
+
+abbrev pub turn : ℕ → Taken → Turn
+turn n t = record { taken = t; size = n }
+
+module _ (d : ℕ) (b : Table) (s : List ℕ) where
+  pub read : (one : TableRecord) (n : ℕ) (t : Taken) → nextTableRecord s ≡ found.Record one n → t ≡ taken d b one → turn n t ≡ turnOf d b s
+  unfolding turnOf
+  read one n t f e = ap (turn n) e ∙ sym (ap (turnWith d b) f)
+
+  pub unread : (refusal : Refusal) → nextTableRecord s ≡ found.Refused refusal → turn 0 (refused b refusal) ≡ turnOf d b s
+  unfolding turnOf
+  unread refusal f = sym (ap (turnWith d b) f)
 
 -- a turn on the part from the place on
 module _ (d : ℕ) (s : List ℕ) (b : Table) (at : ℕ) (f : Sofar d s b at) (l : at < length s) (t : Turn)
@@ -49,12 +66,12 @@ module _ (d : ℕ) (s : List ℕ) (b : Table) (at : ℕ) (f : Sofar d s b at) (l
   its : {v : Verdict} → t .taken .verdict ≡ v → turnOf d b (drop at s) .taken .verdict ≡ v
   its v = sym (ap (λ (x : Turn). x .taken .verdict) whole) ∙ v
 
-  pub stops : (refusal : Refusal) → t .taken .verdict ≡ Refused refusal → told (t .taken .verdict) b at ≡ readingOf d s
+  pub stops : (refusal : Refusal) → t .taken .verdict ≡ Refused refusal → told (Refused refusal) b at ≡ readingOf d s
   stops refusal v = by (f .turns) refl
     where
-      by : (n : ℕ) → f .turns ≡ n → told (t .taken .verdict) b at ≡ readingOf d s
+      by : (n : ℕ) → f .turns ≡ n → told (Refused refusal) b at ≡ readingOf d s
       by zero z = absurd (omega (arith, f .enough))
-      by (suc n) z = rw v (sym (f .rest ∙ rw z (read-stop d b at (drop at s) n some refusal (its v))))
+      by (suc n) z = sym (f .rest ∙ rw z (read-stop d b at (drop at s) n some refusal (its v)))
 
   pub takes : t .taken .verdict ≡ Accepted → Within (drop at s) 0 (t .size)
   takes v = rw whole (turn-within d b (drop at s) (its v))

@@ -1,4 +1,5 @@
 pub mod Taken
+pub mod Parts
 pub mod TakenLaws
 pub mod Ending
 pub mod Turn

@@ -13,9 +13,13 @@ use Rattle.wire.specs.declared.refusal.Refusal.{Refusal}
 use Rattle.wire.specs.declared.refusal.Refusal.the-variants.{NotCoresFirst, TooMany, OutOfRange, PriorityTaken}
 use Rattle.wire.specs.declared.table_record.TableRecord.{TableRecord}
 use Rattle.wire.specs.declared.table_record.TableRecord.the-variants as put
-use Rattle.reading.specs.declared.rules.Taken.{Taken}
 use Rattle.reading.specs.declared.rules.Verdict.{Verdict}
 use Rattle.reading.specs.declared.rules.Verdict.the-variants.{Accepted, Refused}
+
+-- the table with a record in it, or as it came where the record is refused
+pub record Taken : Type 0 where
+  pub table : Table
+  pub verdict : Verdict
 
 -- the number of a verdict: 0, or the refusal's
 abbrev pub numberIn : Verdict → ℕ

@@ -5,8 +5,12 @@ use Rattle.table.specs.declared.Table.{Table}
 use Rattle.wire.specs.Table.{nextTableRecord}
 use Rattle.wire.specs.declared.table_record.NextTableRecord.{NextTableRecord}
 use Rattle.wire.specs.declared.table_record.NextTableRecord.the-variants as found
-use Rattle.reading.specs.declared.turn.Turn.{Turn}
-use Rattle.reading.specs.Taken.{refused, taken}
+use Rattle.reading.specs.Taken.{Taken, refused, taken}
+
+-- the table after the turn, and how many bytes the record took
+pub record Turn : Type 0 where
+  pub taken : Taken
+  pub size : ℕ
 
 -- the record that was found, taken into the table, and how many bytes it took
 abbrev pub turnWith : ℕ → Table → NextTableRecord → Turn

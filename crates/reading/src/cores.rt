@@ -1,24 +1,27 @@
 // A CORES record.
 ghost use mathlib.Core.Path.{_≡_};
+ghost use mathlib.Core.List.{List};
+ghost use Prim.Native.Nat.{ℕ};
+ghost use Rattle.reading.specs.Parts.{tableWith, takenOf};
 ghost use Rattle.reading.specs.Taken.{coresTaken};
-use crate::rules::Taken;
+use crate::rules::Sizes;
+use crate::rules::Took;
 use crate::rules::accepted;
 use crate::rules::one_to;
 use crate::rules::refused;
 use table::MAX_CORES;
-use table::Table;
 use wire::refusal::Refusal;
 
 // CORES comes first and once: a table has no cores before it, and some after.
-pub(crate) fn take_cores(mut table: Table, count: u8) -> Taken
-    ensures { λ r. ⌜ r ≡ coresTaken table count ⌝ }
+pub(crate) fn take_cores(mut sizes: Sizes, count: u8) -> Took
+    ensures { λ r. ⌜ ((priority budget gang core : List ℕ) → takenOf r priority budget gang core ≡ coresTaken (tableWith sizes priority budget gang core) count) ⌝ }
 {
-    if table.cores != 0 {
-        return refused(table, Refusal::NotCoresFirst);
+    if sizes.cores != 0 {
+        return refused(sizes, Refusal::NotCoresFirst);
     }
     if !one_to(MAX_CORES, count) {
-        return refused(table, Refusal::OutOfRange);
+        return refused(sizes, Refusal::OutOfRange);
     }
-    table.cores = count;
-    accepted(table)
+    sizes.cores = count;
+    accepted(sizes)
 }

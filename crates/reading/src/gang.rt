@@ -1,14 +1,17 @@
 // A GANG record.
 ghost use mathlib.Core.Path.{_≡_};
+ghost use mathlib.Core.List.{List};
+ghost use Prim.Native.Nat.{ℕ};
+ghost use Rattle.reading.specs.Parts.{tableWith, takenOf};
 ghost use Rattle.reading.specs.Taken.{gangFits, gangTaken};
-use crate::rules::Taken;
+use crate::rules::Sizes;
+use crate::rules::Took;
 use crate::rules::accepted;
 use crate::rules::one_to;
 use crate::rules::refused;
 use table::MAX_BUDGET;
 use table::MAX_GANGS;
 use table::TOP_PRIORITY;
-use table::Table;
 use wire::refusal::Refusal;
 
 // The priority and the budget are in range.
@@ -18,25 +21,31 @@ fn gang_fits(priority: u8, budget: u32) -> bool
     one_to(TOP_PRIORITY, priority) && budget <= MAX_BUDGET
 }
 
-// The next gang: its number is how many were read before it. The tests stand in the order of the refusal numbers.
-pub(crate) fn take_gang(mut table: Table, priority: u8, budget: u32) -> Taken
-    ensures { λ r. ⌜ r ≡ gangTaken table priority budget ⌝ }
+// The next gang, of priority p and budget m: its number is how many were read before it. The tests stand in the order of the refusal numbers.
+pub(crate) fn take_gang<'a>(
+    mut sizes: Sizes,
+    priority: &'a mut [u8; 32],
+    budget: &'a mut [u32; 32],
+    p: u8,
+    m: u32,
+) -> Took
+    ensures { λ r. ⌜ ((gang core : List ℕ) → takenOf r (now (priority .exit)) (now (budget .exit)) gang core ≡ gangTaken (tableWith sizes (now (priority .entry)) (now (budget .entry)) gang core) p m) ⌝ }
 {
-    if table.cores == 0 {
-        return refused(table, Refusal::NotCoresFirst);
+    if sizes.cores == 0 {
+        return refused(sizes, Refusal::NotCoresFirst);
     }
-    if table.gangs >= MAX_GANGS {
-        return refused(table, Refusal::TooMany);
+    if sizes.gangs >= MAX_GANGS {
+        return refused(sizes, Refusal::TooMany);
     }
-    if !gang_fits(priority, budget) {
-        return refused(table, Refusal::OutOfRange);
+    if !gang_fits(p, m) {
+        return refused(sizes, Refusal::OutOfRange);
     }
-    if table::priority_taken(&table.priority, table.gangs, priority) {
-        return refused(table, Refusal::PriorityTaken);
+    if table::priority_taken(priority, sizes.gangs, p) {
+        return refused(sizes, Refusal::PriorityTaken);
     }
-    let at = table.gangs as usize;
-    table.priority[at] = priority;
-    table.budget[at] = budget;
-    table.gangs = table.gangs + 1;
-    accepted(table)
+    let at = sizes.gangs as usize;
+    priority[at] = p;
+    budget[at] = m;
+    sizes.gangs = sizes.gangs + 1;
+    accepted(sizes)
 }

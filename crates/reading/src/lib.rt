@@ -1,17 +1,22 @@
 // A table's bytes, read record by record into a Table, or refused.
 ghost use mathlib.Core.Path.{_≡_};
-ghost use Rattle.reading.specs.Reading.{defaultBudget, told, readingOf};
+ghost use Rattle.table.specs.Rules.{emptyTable};
+ghost use Rattle.reading.specs.declared.rules.Verdict.the-variants.{Refused};
+ghost use Rattle.reading.specs.Parts.{tableWith};
+ghost use Rattle.reading.specs.Reading.{defaultBudget, told, ended, readingOf};
 ghost use Rattle.reading.specs.SystemRead.{systemRead};
+use rules::Sizes;
 use rules::Verdict;
 use system::System;
 use table::Table;
+use wire::refusal::Refusal;
+use wire::table_record::NextTableRecord;
 
 mod cores;
 mod ending;
 mod gang;
 mod rules;
 mod thread;
-mod turn;
 
 // The budget of a short GANG.
 pub const DEFAULT_BUDGET: u32 = 1000000;
@@ -52,39 +57,82 @@ pub fn read_system(bytes: &[u8]) -> SystemRead
     }
 }
 
+// The table's parts are held apart and changed where they lie; the Table is made once, at the end.
 fn read_with(default: u32, bytes: &[u8]) -> Reading
     ensures { λ r. ⌜ r ≡ readingOf default (now (bytes .entry)) ⌝ }
 {
-    let mut table = Table::empty();
+    let mut sizes = Sizes {
+        cores: 0,
+        gangs: 0,
+        threads: 0,
+    };
+    let mut priority = [0u8; 32];
+    let mut budget = [0u32; 32];
+    let mut gang = [0u8; 128];
+    let mut core = [0u8; 128];
     let mut at: usize = 0;
     while at < bytes.len() {
-        let turn = turn::take_next(default, table, &bytes[at..]);
-        let taken = turn.taken;
-        let verdict = taken.verdict;
-        if let Verdict::Refused(_) = verdict {
-            return told(verdict, table, at);
+        match wire::table_record::next_table_record(&bytes[at..]) {
+            NextTableRecord::Record { record, next } => {
+                let took = rules::take(
+                    default,
+                    sizes,
+                    &mut priority,
+                    &mut budget,
+                    &mut gang,
+                    &mut core,
+                    record,
+                );
+                let verdict = took.verdict;
+                if let Verdict::Refused(refusal) = verdict {
+                    return refused_at(refusal, at);
+                }
+                let more = took.sizes;
+                sizes = more;
+                at += next;
+            }
+            NextTableRecord::Refused(refusal) => return refused_at(refusal, at),
         }
-        let next = taken.table;
-        table = next;
-        at += turn.size;
     }
-    told(ending::ending(table), table, at)
+    ended(sizes, priority, budget, gang, core, at)
 }
 
-// The reading that a verdict at a place comes to.
-fn told(verdict: Verdict, table: Table, place: usize) -> Reading
-    ensures { λ r. ⌜ r ≡ told verdict table place ⌝ }
+// The table's end.
+fn ended(
+    sizes: Sizes,
+    priority: [u8; 32],
+    budget: [u32; 32],
+    gang: [u8; 128],
+    core: [u8; 128],
+    place: usize,
+) -> Reading
+    ensures { λ r. ⌜ r ≡ ended (tableWith sizes priority budget gang core) place ⌝ }
 {
-    match verdict {
+    match ending::ending(sizes, &gang) {
         Verdict::Accepted => Reading {
-            table,
+            table: Table {
+                cores: sizes.cores,
+                gangs: sizes.gangs,
+                threads: sizes.threads,
+                priority,
+                budget,
+                gang,
+                core,
+            },
             number: 0,
             place,
         },
-        Verdict::Refused(refusal) => Reading {
-            table: Table::empty(),
-            number: wire::refusal::number_of(refusal),
-            place,
-        },
+        Verdict::Refused(refusal) => refused_at(refusal, place),
+    }
+}
+
+// The empty table, beside why and where.
+fn refused_at(refusal: Refusal, place: usize) -> Reading
+    ensures { λ r. ⌜ r ≡ told (Refused refusal) emptyTable place ⌝ }
+{
+    Reading {
+        table: Table::empty(),
+        number: wire::refusal::number_of(refusal),
+        place,
     }
 }

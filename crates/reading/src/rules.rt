@@ -1,8 +1,13 @@
-// The rules on a table's records, as values: whether one more record may come, and the table with it.
+// The rules on a table's records: whether one more record may come, and the table's parts with it in them.
 ghost use mathlib.Core.Path.{_≡_};
+ghost use mathlib.Core.List.{List};
+ghost use Prim.Native.Nat.{ℕ};
 ghost use Rattle.table.specs.Rules.{within};
+ghost use Rattle.reading.specs.Parts.{tableWith, takenOf};
 ghost use Rattle.reading.specs.Taken.{refused, accepted, taken};
-use table::Table;
+use crate::cores::take_cores;
+use crate::gang::take_gang;
+use crate::thread::take_thread;
 use wire::refusal::Refusal;
 use wire::table_record::TableRecord;
 
@@ -12,39 +17,57 @@ pub enum Verdict {
     Refused(Refusal),
 }
 
-// The table with a record in it, or as it came where the record is refused.
-pub struct Taken {
-    pub table: Table,
+// How many cores, gangs and threads the records so far give.
+pub struct Sizes {
+    pub cores: u8,
+    pub gangs: u8,
+    pub threads: u8,
+}
+
+// The sizes with a record taken in, or as they came where it is refused: the lists are changed where they lie.
+pub struct Took {
+    pub sizes: Sizes,
     pub verdict: Verdict,
 }
 
 // One more record. A short GANG has the default budget.
-pub(crate) fn take(default: u32, table: Table, one: TableRecord) -> Taken
-    ensures { λ r. ⌜ r ≡ taken default table one ⌝ }
+pub(crate) fn take<'a>(
+    default: u32,
+    sizes: Sizes,
+    priority: &'a mut [u8; 32],
+    budget: &'a mut [u32; 32],
+    gang: &'a mut [u8; 128],
+    core: &'a mut [u8; 128],
+    one: TableRecord,
+) -> Took
+    ensures { λ r. ⌜ takenOf r (now (priority .exit)) (now (budget .exit)) (now (gang .exit)) (now (core .exit)) ≡ taken default (tableWith sizes (now (priority .entry)) (now (budget .entry)) (now (gang .entry)) (now (core .entry))) one ⌝ }
 {
     match one {
-        TableRecord::Cores(count) => crate::cores::take_cores(table, count),
-        TableRecord::Gang { priority, budget } => crate::gang::take_gang(table, priority, budget),
-        TableRecord::ShortGang(priority) => crate::gang::take_gang(table, priority, default),
-        TableRecord::Thread { gang, core } => crate::thread::take_thread(table, gang, core),
+        TableRecord::Cores(count) => take_cores(sizes, count),
+        TableRecord::Gang {
+            priority: p,
+            budget: m,
+        } => take_gang(sizes, priority, budget, p, m),
+        TableRecord::ShortGang(p) => take_gang(sizes, priority, budget, p, default),
+        TableRecord::Thread { gang: g, core: c } => take_thread(sizes, gang, core, g, c),
     }
 }
 
-// The table as it came, beside why.
-pub(crate) fn refused(table: Table, refusal: Refusal) -> Taken
-    ensures { λ r. ⌜ r ≡ refused table refusal ⌝ }
+// The sizes as they came, beside why.
+pub(crate) fn refused(sizes: Sizes, refusal: Refusal) -> Took
+    ensures { λ r. ⌜ ((priority budget gang core : List ℕ) → takenOf r priority budget gang core ≡ refused (tableWith sizes priority budget gang core) refusal) ⌝ }
 {
-    Taken {
-        table,
+    Took {
+        sizes,
         verdict: Verdict::Refused(refusal),
     }
 }
 
-pub(crate) fn accepted(table: Table) -> Taken
-    ensures { λ r. ⌜ r ≡ accepted table ⌝ }
+pub(crate) fn accepted(sizes: Sizes) -> Took
+    ensures { λ r. ⌜ ((priority budget gang core : List ℕ) → takenOf r priority budget gang core ≡ accepted (tableWith sizes priority budget gang core)) ⌝ }
 {
-    Taken {
-        table,
+    Took {
+        sizes,
         verdict: Verdict::Accepted,
     }
 }

@@ -1,11 +1,14 @@
 // A THREAD record.
 ghost use mathlib.Core.Path.{_≡_};
+ghost use mathlib.Core.List.{List};
+ghost use Prim.Native.Nat.{ℕ};
+ghost use Rattle.reading.specs.Parts.{tableWith, takenOf};
 ghost use Rattle.reading.specs.Taken.{threadFits, threadTaken};
-use crate::rules::Taken;
+use crate::rules::Sizes;
+use crate::rules::Took;
 use crate::rules::accepted;
 use crate::rules::refused;
 use table::MAX_THREADS;
-use table::Table;
 use wire::refusal::Refusal;
 
 // The gang has been read already, and the core is one of the table's.
@@ -15,22 +18,28 @@ fn thread_fits(gang: u8, gangs: u8, core: u8, cores: u8) -> bool
     gang < gangs && core < cores
 }
 
-// The next thread: its number is how many were read before it. The tests stand in the order of the refusal numbers.
-pub(crate) fn take_thread(mut table: Table, gang: u8, core: u8) -> Taken
-    ensures { λ r. ⌜ r ≡ threadTaken table gang core ⌝ }
+// The next thread, of gang g and on core c: its number is how many were read before it. The tests stand in the order of the refusal numbers.
+pub(crate) fn take_thread<'a>(
+    mut sizes: Sizes,
+    gang: &'a mut [u8; 128],
+    core: &'a mut [u8; 128],
+    g: u8,
+    c: u8,
+) -> Took
+    ensures { λ r. ⌜ ((priority budget : List ℕ) → takenOf r priority budget (now (gang .exit)) (now (core .exit)) ≡ threadTaken (tableWith sizes priority budget (now (gang .entry)) (now (core .entry))) g c) ⌝ }
 {
-    if table.cores == 0 {
-        return refused(table, Refusal::NotCoresFirst);
+    if sizes.cores == 0 {
+        return refused(sizes, Refusal::NotCoresFirst);
     }
-    if table.threads >= MAX_THREADS {
-        return refused(table, Refusal::TooMany);
+    if sizes.threads >= MAX_THREADS {
+        return refused(sizes, Refusal::TooMany);
     }
-    if !thread_fits(gang, table.gangs, core, table.cores) {
-        return refused(table, Refusal::OutOfRange);
+    if !thread_fits(g, sizes.gangs, c, sizes.cores) {
+        return refused(sizes, Refusal::OutOfRange);
     }
-    let at = table.threads as usize;
-    table.gang[at] = gang;
-    table.core[at] = core;
-    table.threads = table.threads + 1;
-    accepted(table)
+    let at = sizes.threads as usize;
+    gang[at] = g;
+    core[at] = c;
+    sizes.threads = sizes.threads + 1;
+    accepted(sizes)
 }

@@ -1,16 +1,14 @@
 -- One thread more: what it adds to the states and to the owing cores of its gang's release.
-use Prim.Native.Nat.{ℕ, _+_, _≤_}
-use mathlib.Core.Path.{_≡_, ap, _∙_}
+use Prim.Native.Nat.{ℕ, _+_}
+use mathlib.Core.Path.{_≡_}
 use mathlib.Core.List.{List}
-use lib.ListN.{length, set}
-use native.Mathlib.Decide.{ℕ-discrete}
+use lib.ListN.{set}
 use native.Mathlib.Numerals.{add-one}
 use borrow.Author.Tests.{eq-eqb, ne-eqb}
 use Rattle.coreset.specs.Set.{withinWidth}
 use Rattle.table.specs.Numbers.{ready}
 use Rattle.table.specs.Order.{gangOf, coreOf}
 use Rattle.state.specs.Threads.{readied, owedBy}
-use Rattle.ranges.specs.Lists.{set-beyond}
 
 module _ (gang : List ℕ) (g n : ℕ) where
   pub readied-one : (state : List ℕ) → gangOf gang n ≡ g → readied gang g (n + 1) state ≡ set (readied gang g n state) n ready
@@ -20,14 +18,6 @@ module _ (gang : List ℕ) (g n : ℕ) where
   pub readied-none : (state : List ℕ) → (gangOf gang n ≡ g → ⊥) → readied gang g (n + 1) state ≡ readied gang g n state
   unfolding readied
   readied-none state e = rw (add-one, ne-eqb (gangOf gang n) g e)
-
-  -- past the end of the states it adds nothing
-  pub readied-past : (state : List ℕ) → length (readied gang g n state) ≤ n → readied gang g (n + 1) state ≡ readied gang g n state
-  readied-past state h = go (ℕ-discrete (gangOf gang n) g)
-    where
-      go : Dec (gangOf gang n ≡ g) → readied gang g (n + 1) state ≡ readied gang g n state
-      go (yes e) = readied-one state e ∙ set-beyond (readied gang g n state) n ready h
-      go (no e) = readied-none state e
 
   pub owed-one : (core : List ℕ) (m : ℕ) → gangOf gang n ≡ g → owedBy core gang g (n + 1) m ≡ withinWidth 32 (owedBy core gang g n m) (coreOf core n)
   unfolding owedBy

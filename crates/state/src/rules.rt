@@ -25,26 +25,27 @@ fn count_ok(k: u32, c: u8, n: u8) -> bool
     }
 }
 
-// Whether every place of the states is right, where there are n threads.
+// Whether every place of the states is right, where there are n threads. Every place is tested, with no way out before the last: so the
+// tests run side by side.
 pub fn states_ok(state: &[u8; 128], n: u8) -> bool
     ensures { λ r. ⌜ r ≡ statesOk n (now (state .entry)) ⌝ }
 {
+    let mut ok = true;
     for t in 0..table::MAX_THREADS {
-        if !state_ok(crate::threads::thread_at(state, t), t, n) {
-            return false;
-        }
+        let i = t as usize;
+        ok = ok & state_ok(state[i], t, n);
     }
-    true
+    ok
 }
 
 // Whether every place of the kept counts is right, where there are n cores.
 pub fn counts_ok(kept: &[u32; 32], n: u8) -> bool
     ensures { λ r. ⌜ r ≡ countsOk n (now (kept .entry)) ⌝ }
 {
+    let mut ok = true;
     for c in 0..table::MAX_CORES {
-        if !count_ok(ledger::value_of(kept, c), c, n) {
-            return false;
-        }
+        let i = c as usize;
+        ok = ok & count_ok(kept[i], c, n);
     }
-    true
+    ok
 }

@@ -1,6 +1,6 @@
 // Threads: one that runs, and those of a gang together. A number past the last place names nothing.
 ghost use mathlib.Core.Path.{_≡_};
-ghost use lib.ListN.{getD};
+ghost use lib.ListN.{getD, set};
 ghost use Rattle.state.specs.Threads.{isRunning, finishedIn, allFinished, readied, owedBy};
 
 // A thread's state, gang or core; 0 past the last place.
@@ -9,6 +9,16 @@ pub fn thread_at(xs: &[u8], t: u8) -> u8
 {
     let at = t as usize;
     if at < xs.len() { xs[at] } else { 0 }
+}
+
+// A thread's state becomes v; past the last place nothing changes.
+pub fn set_thread(xs: &mut [u8], t: u8, v: u8)
+    ensures { λ _. ⌜ now (xs .exit) ≡ set (now (xs .entry)) t v ⌝ }
+{
+    let at = t as usize;
+    if at < xs.len() {
+        xs[at] = v;
+    }
 }
 
 // A core's occupant; none past the last place.
@@ -62,20 +72,15 @@ pub fn all_finished<'a>(state: &'a [u8; 128], gang: &'a [u8; 128], g: u8, n: u8)
     true
 }
 
-// The states where gang g's threads become ready, of the first n.
-pub fn make_ready(state: [u8; 128], gang: &[u8; 128], g: u8, n: u8) -> [u8; 128]
-    ensures { λ r. ⌜ r ≡ readied (now (gang .entry)) g n state ⌝ }
+// Gang g's threads become ready, of the first n.
+pub fn make_ready<'a>(state: &'a mut [u8; 128], gang: &'a [u8; 128], g: u8, n: u8)
+    ensures { λ _. ⌜ now (state .exit) ≡ readied (now (gang .entry)) g n (now (state .entry)) ⌝ }
 {
-    let mut next = state;
     for t in 0..n {
-        if t < table::MAX_THREADS {
-            if thread_at(gang, t) == g {
-                let at = t as usize;
-                next[at] = table::READY;
-            }
+        if thread_at(gang, t) == g {
+            set_thread(state, t, table::READY);
         }
     }
-    next
 }
 
 // The owing cores, with those that the first n threads' are pinned to, if they are gang g's.

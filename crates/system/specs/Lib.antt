@@ -1,6 +1,7 @@
 pub mod Stop
 pub mod WellFormed
 pub mod System
+pub mod Parts
 pub mod Events
 pub mod Cases
 pub mod Questions

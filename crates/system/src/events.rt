@@ -1,7 +1,7 @@
 // The seven events, for any system whatever: 14 first, then the event's own refusals and its effect.
 ghost use mathlib.Core.Path.{_≡_};
 ghost use Rattle.table.specs.Numbers.{finished, waiting};
-ghost use Rattle.system.specs.Events.{checked, releaseStep, leaveStep, wakeStep, serveStep, trafficStep, tickStep, applyOf};
+ghost use Rattle.system.specs.Events.{refusedBy, checked, releaseStep, leaveStep, wakeStep, serveStep, trafficStep, tickStep, stepOf, applyOf};
 use crate::System;
 use wire::answer::Answer;
 use wire::event::Event;
@@ -18,77 +18,52 @@ impl System {
     pub fn release(mut self, g: u8) -> Reply
         ensures { λ r. ⌜ r ≡ checked self (releaseStep self g) ⌝ }
     {
-        if self.well_formed() {
-            self.release_step(g)
-        } else {
-            self.refused(Refusal::NotWellFormed)
-        }
+        self.apply(Event::Release(g))
     }
 
     // FINISH thread t.
     pub fn finish(mut self, t: u8) -> Reply
         ensures { λ r. ⌜ r ≡ checked self (leaveStep self t finished) ⌝ }
     {
-        if self.well_formed() {
-            self.leave_step(t, table::FINISHED)
-        } else {
-            self.refused(Refusal::NotWellFormed)
-        }
+        self.apply(Event::Finish(t))
     }
 
     // WAIT of thread t.
     pub fn wait(mut self, t: u8) -> Reply
         ensures { λ r. ⌜ r ≡ checked self (leaveStep self t waiting) ⌝ }
     {
-        if self.well_formed() {
-            self.leave_step(t, table::WAITING)
-        } else {
-            self.refused(Refusal::NotWellFormed)
-        }
+        self.apply(Event::Wait(t))
     }
 
     // WAKE thread t.
     pub fn wake(mut self, t: u8) -> Reply
         ensures { λ r. ⌜ r ≡ checked self (wakeStep self t) ⌝ }
     {
-        if self.well_formed() {
-            self.wake_step(t)
-        } else {
-            self.refused(Refusal::NotWellFormed)
-        }
+        self.apply(Event::Wake(t))
     }
 
     // SERVE core c.
     pub fn serve(mut self, c: u8) -> Reply
         ensures { λ r. ⌜ r ≡ checked self (serveStep self c) ⌝ }
     {
-        if self.well_formed() {
-            self.serve_step(c)
-        } else {
-            self.refused(Refusal::NotWellFormed)
-        }
+        self.apply(Event::Serve(c))
     }
 
     // TRAFFIC from core c.
     pub fn traffic(mut self, c: u8, transactions: u32) -> Reply
         ensures { λ r. ⌜ r ≡ checked self (trafficStep self c transactions) ⌝ }
     {
-        if self.well_formed() {
-            self.traffic_step(c, transactions)
-        } else {
-            self.refused(Refusal::NotWellFormed)
-        }
+        self.apply(Event::Traffic {
+            core: c,
+            transactions,
+        })
     }
 
     // TICK.
     pub fn tick(mut self) -> Reply
         ensures { λ r. ⌜ r ≡ checked self (tickStep self) ⌝ }
     {
-        if self.well_formed() {
-            self.tick_step()
-        } else {
-            self.refused(Refusal::NotWellFormed)
-        }
+        self.apply(Event::Tick)
     }
 
     // Any event as a value.
@@ -98,7 +73,58 @@ impl System {
         if self.well_formed() {
             self.step(event)
         } else {
-            self.refused(Refusal::NotWellFormed)
+            Reply {
+                system: self,
+                answer: Answer::Refused(Refusal::NotWellFormed),
+            }
         }
+    }
+
+    // Any event, on any system: for a caller that has found the system well formed already. The parts are lent, so that none is copied on the way.
+    pub fn step(self, event: Event) -> Reply
+        ensures { λ r. ⌜ r ≡ stepOf self event ⌝ }
+    {
+        let table = self.table;
+        let before = self.ledger;
+        let lock = self.lock;
+        let mut state = self.state;
+        let mut number = before.number;
+        let mut served = before.served;
+        let mut skipped = before.skipped;
+        let mut job = before.job;
+        let mut occupant = lock.occupant;
+        let mut kept = self.kept;
+        let stepped = crate::steps::step(
+            table.cores,
+            table.gangs,
+            table.threads,
+            &table.priority,
+            &table.budget,
+            &table.gang,
+            &table.core,
+            &mut state,
+            &mut number,
+            &mut served,
+            &mut skipped,
+            &mut job,
+            lock.held(),
+            &mut occupant,
+            &mut kept,
+            event,
+        );
+        let answer = stepped.answer;
+        let held = stepped.held;
+        let system = System::of_parts(
+            table,
+            state,
+            number,
+            served,
+            skipped,
+            job,
+            held,
+            occupant,
+            kept,
+        );
+        Reply { system, answer }
     }
 }

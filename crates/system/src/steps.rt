@@ -1,9 +1,18 @@
-// The seven events as steps: what each does to any system whatever, well formed or not. The public events look at the system first.
+// The seven events as steps on a system's parts, in place: what each does to any system whatever, well formed or not.
+// An event is lent only the parts that it reads or changes. The public events look at the system first.
 ghost use mathlib.Core.Path.{_≡_};
-ghost use Rattle.system.specs.Events.{refusedBy, servedBy, skippedBy, releasedBy, releaseStep, turned, leaveStep, wakeStep, serveStep, counted, trafficStep, tickStep, stepOf};
-use crate::System;
-use crate::events::Reply;
+ghost use mathlib.Core.List.{List};
+ghost use Prim.Native.Nat.{ℕ};
+ghost use lib.ListN.{replicate, set};
+ghost use Rattle.lock.specs.Serve.{lockOf, oweOf};
+ghost use Rattle.table.specs.Numbers.{maxCores};
+ghost use Rattle.table.specs.Order.{coreOf};
+ghost use Rattle.wire.specs.declared.answer.Answer.the-variants.{Refused, Done};
+ghost use Rattle.system.specs.Events.{replyOf, releasedBy, releaseStep, leaveStep, wakeStep, serveStep, trafficStep, stepOf, applyOf};
+ghost use Rattle.system.specs.Parts.{systemOf, steppedOf};
+use ledger::set_value;
 use ledger::value_of;
+use lock::Held;
 use state::allowance::is_stopped;
 use state::allowance::sum_of;
 use state::threads::all_finished;
@@ -11,224 +20,336 @@ use state::threads::is_running;
 use state::threads::make_owe;
 use state::threads::make_ready;
 use state::threads::occupant_at;
+use state::threads::set_thread;
 use state::threads::thread_at;
 use wire::answer::Answer;
 use wire::event::Event;
 use wire::refusal::Refusal;
 
-impl System {
-    // The system as it came, beside a refusal.
-    pub(crate) fn refused(self, refusal: Refusal) -> Reply
-        ensures { λ r. ⌜ r ≡ refusedBy self refusal ⌝ }
-    {
-        Reply {
-            system: self,
-            answer: Answer::Refused(refusal),
-        }
-    }
+// What an event comes to, beside the holder and the core sets that it leaves.
+pub struct Stepped {
+    pub held: Held,
+    pub answer: Answer,
+}
 
-    // A release that is served: gang g's threads become ready, their cores owe, and the job takes the number.
-    fn served_release(mut self, g: u8) -> System
-        ensures { λ r. ⌜ r ≡ servedBy self g ⌝ }
-    {
-        let table = self.table;
-        let state = self.state;
-        let ledger = self.ledger;
-        let mut lock = self.lock;
-        let readied = make_ready(state, &table.gang, g, table.threads);
-        let released = ledger.serve(g);
-        lock.owing = make_owe(lock.owing, &table.core, &table.gang, g, table.threads);
-        self.state = readied;
-        self.ledger = released;
-        self.lock = lock;
-        self
+fn refused(held: Held, refusal: Refusal) -> Stepped
+    ensures { λ r. ⌜ r ≡ steppedOf held (Refused refusal) ⌝ }
+{
+    Stepped {
+        held,
+        answer: Answer::Refused(refusal),
     }
+}
 
-    // A release that is skipped: it takes its number, and nothing else changes.
-    fn skipped_release(mut self, g: u8) -> System
-        ensures { λ r. ⌜ r ≡ skippedBy self g ⌝ }
-    {
-        let ledger = self.ledger;
-        let released = ledger.skip(g);
-        self.ledger = released;
-        self
+// RELEASE of a gang that is there and has a number left: served where all its threads are finished, and else skipped.
+fn released<'a>(
+    threads: u8,
+    gang: &'a [u8; 128],
+    core: &'a [u8; 128],
+    state: &'a mut [u8; 128],
+    number: &'a mut [u32; 32],
+    served: &'a mut [u32; 32],
+    skipped: &'a mut [u32; 32],
+    job: &'a mut [u32; 32],
+    mut held: Held,
+    g: u8,
+) -> Stepped
+    ensures { λ r. ⌜ ((cores gangs : ℕ) (priority budget occupant kept : List ℕ) → releasedBy (systemOf cores gangs threads priority budget (now (gang .entry)) (now (core .entry)) (now (state .entry)) (now (number .entry)) (now (served .entry)) (now (skipped .entry)) (now (job .entry)) held occupant kept) g ≡ replyOf (systemOf cores gangs threads priority budget (now (gang .entry)) (now (core .entry)) (now (state .exit)) (now (number .exit)) (now (served .exit)) (now (skipped .exit)) (now (job .exit)) (r .held) occupant kept) (r .answer)) ⌝ }
+{
+    if all_finished(state, gang, g, threads) {
+        make_ready(state, gang, g, threads);
+        held.owing = make_owe(held.owing, core, gang, g, threads);
+        ledger::serve(number, served, job, g);
+        return Stepped {
+            held,
+            answer: Answer::Served(value_of(number, g)),
+        };
     }
-
-    // RELEASE of a gang that is there and has a number left.
-    fn released(self, g: u8) -> Reply
-        ensures { λ r. ⌜ r ≡ releasedBy self g ⌝ }
-    {
-        let table = self.table;
-        if all_finished(&self.state, &table.gang, g, table.threads) {
-            let next = self.served_release(g);
-            let ledger = next.ledger;
-            Reply {
-                system: next,
-                answer: Answer::Served(value_of(&ledger.number, g)),
-            }
-        } else {
-            let next = self.skipped_release(g);
-            let ledger = next.ledger;
-            Reply {
-                system: next,
-                answer: Answer::Skipped(value_of(&ledger.number, g)),
-            }
-        }
+    ledger::skip(number, skipped, g);
+    Stepped {
+        held,
+        answer: Answer::Skipped(value_of(number, g)),
     }
+}
 
-    // RELEASE gang g.
-    pub(crate) fn release_step(self, g: u8) -> Reply
-        ensures { λ r. ⌜ r ≡ releaseStep self g ⌝ }
-    {
-        let ledger = self.ledger;
-        if self.table.gangs <= g {
-            return self.refused(Refusal::OutOfRange);
-        }
-        if value_of(&ledger.number, g) == ledger::LAST_NUMBER {
-            return self.refused(Refusal::NumbersSpent);
-        }
-        self.released(g)
+// RELEASE gang g.
+fn release<'a>(
+    gangs: u8,
+    threads: u8,
+    gang: &'a [u8; 128],
+    core: &'a [u8; 128],
+    state: &'a mut [u8; 128],
+    number: &'a mut [u32; 32],
+    served: &'a mut [u32; 32],
+    skipped: &'a mut [u32; 32],
+    job: &'a mut [u32; 32],
+    held: Held,
+    g: u8,
+) -> Stepped
+    ensures { λ r. ⌜ ((cores : ℕ) (priority budget occupant kept : List ℕ) → releaseStep (systemOf cores gangs threads priority budget (now (gang .entry)) (now (core .entry)) (now (state .entry)) (now (number .entry)) (now (served .entry)) (now (skipped .entry)) (now (job .entry)) held occupant kept) g ≡ replyOf (systemOf cores gangs threads priority budget (now (gang .entry)) (now (core .entry)) (now (state .exit)) (now (number .exit)) (now (served .exit)) (now (skipped .exit)) (now (job .exit)) (r .held) occupant kept) (r .answer)) ⌝ }
+{
+    if gangs <= g {
+        return refused(held, Refusal::OutOfRange);
     }
-
-    // Thread t's state becomes v, and its core owes.
-    fn turned(mut self, t: u8, v: u8) -> System
-        ensures { λ r. ⌜ r ≡ turned self t v ⌝ }
-    {
-        let table = self.table;
-        let lock = self.lock;
-        let next = lock.owe(thread_at(&table.core, t));
-        self.lock = next;
-        if t < table::MAX_THREADS {
-            let at = t as usize;
-            self.state[at] = v;
-            self
-        } else {
-            self
-        }
+    if value_of(number, g) == ledger::LAST_NUMBER {
+        return refused(held, Refusal::NumbersSpent);
     }
+    released(
+        threads,
+        gang,
+        core,
+        state,
+        number,
+        served,
+        skipped,
+        job,
+        held,
+        g,
+    )
+}
 
-    // FINISH or WAIT thread t: it becomes v, if it is running.
-    pub(crate) fn leave_step(self, t: u8, v: u8) -> Reply
-        ensures { λ r. ⌜ r ≡ leaveStep self t v ⌝ }
-    {
-        let table = self.table;
-        let lock = self.lock;
-        if table.threads <= t {
-            return self.refused(Refusal::OutOfRange);
-        }
-        if is_running(&self.state, &table.core, &lock.occupant, t) {
-            Reply {
-                system: self.turned(t, v),
-                answer: Answer::Done,
-            }
-        } else {
-            self.refused(Refusal::NotRunning)
-        }
+// Thread t's state becomes v, and its core owes.
+fn turn<'a>(core: &'a [u8; 128], state: &'a mut [u8; 128], held: Held, t: u8, v: u8) -> Stepped
+    ensures stored { λ _. ⌜ now (state .exit) ≡ set (now (state .entry)) t v ⌝ }
+    ensures owes { λ r. ⌜ ((o : List ℕ) → lockOf (r .held) o ≡ oweOf (lockOf held o) (coreOf (now (core .entry)) t)) ⌝ }
+    ensures done { λ r. ⌜ r .answer ≡ Done ⌝ }
+{
+    set_thread(state, t, v);
+    Stepped {
+        held: held.owe(thread_at(core, t)),
+        answer: Answer::Done,
     }
+}
 
-    // WAKE thread t.
-    pub(crate) fn wake_step(self, t: u8) -> Reply
-        ensures { λ r. ⌜ r ≡ wakeStep self t ⌝ }
-    {
-        if self.table.threads <= t {
-            return self.refused(Refusal::OutOfRange);
-        }
-        if thread_at(&self.state, t) == table::WAITING {
-            Reply {
-                system: self.turned(t, table::READY),
-                answer: Answer::Done,
-            }
-        } else {
-            self.refused(Refusal::NotWaiting)
-        }
+// FINISH or WAIT thread t: it becomes v, if it is running.
+fn leave<'a>(
+    threads: u8,
+    core: &'a [u8; 128],
+    occupant: &'a [u8; 32],
+    state: &'a mut [u8; 128],
+    held: Held,
+    t: u8,
+    v: u8,
+) -> Stepped
+    ensures { λ r. ⌜ ((cores gangs : ℕ) (priority budget gang number served skipped job kept : List ℕ) → leaveStep (systemOf cores gangs threads priority budget gang (now (core .entry)) (now (state .entry)) number served skipped job held (now (occupant .entry)) kept) t v ≡ replyOf (systemOf cores gangs threads priority budget gang (now (core .entry)) (now (state .exit)) number served skipped job (r .held) (now (occupant .entry)) kept) (r .answer)) ⌝ }
+{
+    if threads <= t {
+        return refused(held, Refusal::OutOfRange);
     }
+    if is_running(state, core, occupant, t) {
+        return turn(core, state, held, t, v);
+    }
+    refused(held, Refusal::NotRunning)
+}
 
-    // SERVE core c.
-    pub(crate) fn serve_step(mut self, c: u8) -> Reply
-        ensures { λ r. ⌜ r ≡ serveStep self c ⌝ }
-    {
-        let table = self.table;
-        let lock = self.lock;
-        if table.cores <= c {
-            return self.refused(Refusal::OutOfRange);
+// WAKE thread t.
+fn wake<'a>(
+    threads: u8,
+    core: &'a [u8; 128],
+    state: &'a mut [u8; 128],
+    held: Held,
+    t: u8,
+) -> Stepped
+    ensures { λ r. ⌜ ((cores gangs : ℕ) (priority budget gang number served skipped job occupant kept : List ℕ) → wakeStep (systemOf cores gangs threads priority budget gang (now (core .entry)) (now (state .entry)) number served skipped job held occupant kept) t ≡ replyOf (systemOf cores gangs threads priority budget gang (now (core .entry)) (now (state .exit)) number served skipped job (r .held) occupant kept) (r .answer)) ⌝ }
+{
+    if threads <= t {
+        return refused(held, Refusal::OutOfRange);
+    }
+    if thread_at(state, t) == table::WAITING {
+        return turn(core, state, held, t, table::READY);
+    }
+    refused(held, Refusal::NotWaiting)
+}
+
+// SERVE core c.
+fn serve<'a>(
+    cores: u8,
+    threads: u8,
+    priority: &'a [u8; 32],
+    gang: &'a [u8; 128],
+    core: &'a [u8; 128],
+    state: &'a [u8; 128],
+    occupant: &'a mut [u8; 32],
+    held: Held,
+    c: u8,
+) -> Stepped
+    ensures { λ r. ⌜ ((gangs : ℕ) (budget number served skipped job kept : List ℕ) → serveStep (systemOf cores gangs threads (now (priority .entry)) budget (now (gang .entry)) (now (core .entry)) (now (state .entry)) number served skipped job held (now (occupant .entry)) kept) c ≡ replyOf (systemOf cores gangs threads (now (priority .entry)) budget (now (gang .entry)) (now (core .entry)) (now (state .entry)) number served skipped job (r .held) (now (occupant .exit)) kept) (r .answer)) ⌝ }
+{
+    if cores <= c {
+        return refused(held, Refusal::OutOfRange);
+    }
+    let t = table::first_ready(state, core, gang, priority, threads, c);
+    let g = thread_at(gang, t);
+    let next = held.serve(occupant, c, t, g, table::ahead(priority, g, held.holder));
+    Stepped {
+        held: next,
+        answer: Answer::Occupant(occupant_at(occupant, c)),
+    }
+}
+
+// TRAFFIC from core c: the holder and the core sets stay.
+fn traffic<'a>(
+    cores: u8,
+    budget: &'a [u32; 32],
+    occupant: &'a [u8; 32],
+    kept: &'a mut [u32; 32],
+    held: Held,
+    c: u8,
+    transactions: u32,
+) -> Answer
+    ensures { λ r. ⌜ ((gangs threads : ℕ) (priority gang core state number served skipped job : List ℕ) → trafficStep (systemOf cores gangs threads priority (now (budget .entry)) gang core state number served skipped job held (now (occupant .entry)) (now (kept .entry))) c transactions ≡ replyOf (systemOf cores gangs threads priority (now (budget .entry)) gang core state number served skipped job held (now (occupant .entry)) (now (kept .exit))) r) ⌝ }
+{
+    if cores <= c {
+        return Answer::Refused(Refusal::OutOfRange);
+    }
+    if state::allowance::MAX_TRAFFIC < transactions {
+        return Answer::Refused(Refusal::OutOfRange);
+    }
+    if occupant_at(occupant, c) == coreset::NONE {
+        let count = sum_of(value_of(kept, c), transactions);
+        set_value(kept, c, count);
+        return Answer::Counted {
+            stopped: is_stopped(occupant, held.holder, budget, kept, c),
+            count: value_of(kept, c),
+        };
+    }
+    Answer::Refused(Refusal::CoreOccupied)
+}
+
+// TICK: all counts become 0.
+fn tick(kept: &mut [u32; 32])
+    ensures { λ _. ⌜ now (kept .exit) ≡ replicate maxCores 0 ⌝ }
+{
+    *kept = [0; 32];
+}
+
+// Any event, on any system's parts: for a caller that has found the system well formed already.
+pub fn step<'a>(
+    cores: u8,
+    gangs: u8,
+    threads: u8,
+    priority: &'a [u8; 32],
+    budget: &'a [u32; 32],
+    gang: &'a [u8; 128],
+    core: &'a [u8; 128],
+    state: &'a mut [u8; 128],
+    number: &'a mut [u32; 32],
+    served: &'a mut [u32; 32],
+    skipped: &'a mut [u32; 32],
+    job: &'a mut [u32; 32],
+    held: Held,
+    occupant: &'a mut [u8; 32],
+    kept: &'a mut [u32; 32],
+    event: Event,
+) -> Stepped
+    ensures { λ r. ⌜ stepOf (systemOf cores gangs threads (now (priority .entry)) (now (budget .entry)) (now (gang .entry)) (now (core .entry)) (now (state .entry)) (now (number .entry)) (now (served .entry)) (now (skipped .entry)) (now (job .entry)) held (now (occupant .entry)) (now (kept .entry))) event ≡ replyOf (systemOf cores gangs threads (now (priority .entry)) (now (budget .entry)) (now (gang .entry)) (now (core .entry)) (now (state .exit)) (now (number .exit)) (now (served .exit)) (now (skipped .exit)) (now (job .exit)) (r .held) (now (occupant .exit)) (now (kept .exit))) (r .answer) ⌝ }
+{
+    match event {
+        Event::Release(g) => {
+            release(
+                gangs,
+                threads,
+                gang,
+                core,
+                state,
+                number,
+                served,
+                skipped,
+                job,
+                held,
+                g,
+            )
         }
-        let t = table::first_ready(
-            &self.state,
-            &table.core,
-            &table.gang,
-            &table.priority,
-            table.threads,
+        Event::Finish(t) => leave(threads, core, occupant, state, held, t, table::FINISHED),
+        Event::Wait(t) => leave(threads, core, occupant, state, held, t, table::WAITING),
+        Event::Wake(t) => wake(threads, core, state, held, t),
+        Event::Serve(c) => serve(
+            cores,
+            threads,
+            priority,
+            gang,
+            core,
+            state,
+            occupant,
+            held,
             c,
-        );
-        let g = thread_at(&table.gang, t);
-        let next = lock.serve(c, t, g, table::ahead(&table.priority, g, lock.holder));
-        self.lock = next;
-        Reply {
-            system: self,
-            answer: Answer::Occupant(occupant_at(&next.occupant, c)),
-        }
-    }
-
-    // Core c's kept count grows.
-    fn counted(mut self, c: u8, transactions: u32) -> System
-        ensures { λ r. ⌜ r ≡ counted self c transactions ⌝ }
-    {
-        if c < table::MAX_CORES {
-            let at = c as usize;
-            self.kept[at] = sum_of(self.kept[at], transactions);
-        }
-        self
-    }
-
-    // TRAFFIC from core c.
-    pub(crate) fn traffic_step(self, c: u8, transactions: u32) -> Reply
-        ensures { λ r. ⌜ r ≡ trafficStep self c transactions ⌝ }
-    {
-        let table = self.table;
-        let lock = self.lock;
-        if table.cores <= c {
-            return self.refused(Refusal::OutOfRange);
-        }
-        if state::allowance::MAX_TRAFFIC < transactions {
-            return self.refused(Refusal::OutOfRange);
-        }
-        if occupant_at(&lock.occupant, c) == coreset::NONE {
-            let next = self.counted(c, transactions);
-            Reply {
-                system: next,
-                answer: Answer::Counted {
-                    stopped: is_stopped(&lock.occupant, lock.holder, &table.budget, &next.kept, c),
-                    count: value_of(&next.kept, c),
-                },
+        ),
+        Event::Traffic {
+            core: c,
+            transactions,
+        } => Stepped {
+            held,
+            answer: traffic(cores, budget, occupant, kept, held, c, transactions),
+        },
+        Event::Tick => {
+            tick(kept);
+            Stepped {
+                held,
+                answer: Answer::Done,
             }
-        } else {
-            self.refused(Refusal::CoreOccupied)
         }
     }
+}
 
-    // TICK.
-    pub(crate) fn tick_step(mut self) -> Reply
-        ensures { λ r. ⌜ r ≡ tickStep self ⌝ }
-    {
-        self.kept = [0; 32];
-        Reply {
-            system: self,
-            answer: Answer::Done,
-        }
+// Any event: 14 first.
+pub fn apply<'a>(
+    cores: u8,
+    gangs: u8,
+    threads: u8,
+    priority: &'a [u8; 32],
+    budget: &'a [u32; 32],
+    gang: &'a [u8; 128],
+    core: &'a [u8; 128],
+    state: &'a mut [u8; 128],
+    number: &'a mut [u32; 32],
+    served: &'a mut [u32; 32],
+    skipped: &'a mut [u32; 32],
+    job: &'a mut [u32; 32],
+    held: Held,
+    occupant: &'a mut [u8; 32],
+    kept: &'a mut [u32; 32],
+    event: Event,
+) -> Stepped
+    ensures { λ r. ⌜ applyOf (systemOf cores gangs threads (now (priority .entry)) (now (budget .entry)) (now (gang .entry)) (now (core .entry)) (now (state .entry)) (now (number .entry)) (now (served .entry)) (now (skipped .entry)) (now (job .entry)) held (now (occupant .entry)) (now (kept .entry))) event ≡ replyOf (systemOf cores gangs threads (now (priority .entry)) (now (budget .entry)) (now (gang .entry)) (now (core .entry)) (now (state .exit)) (now (number .exit)) (now (served .exit)) (now (skipped .exit)) (now (job .exit)) (r .held) (now (occupant .exit)) (now (kept .exit))) (r .answer) ⌝ }
+{
+    if !crate::parts_ok(
+        cores,
+        gangs,
+        threads,
+        priority,
+        budget,
+        gang,
+        core,
+        state,
+        number,
+        served,
+        skipped,
+        job,
+        held.holder,
+        held.locked,
+        held.blocked,
+        held.owing,
+        occupant,
+        kept,
+    ) {
+        return refused(held, Refusal::NotWellFormed);
     }
-
-    // Any event, on any system: for a caller that has found the system well formed already.
-    pub fn step(self, event: Event) -> Reply
-        ensures { λ r. ⌜ r ≡ stepOf self event ⌝ }
-    {
-        match event {
-            Event::Release(g) => self.release_step(g),
-            Event::Finish(t) => self.leave_step(t, table::FINISHED),
-            Event::Wait(t) => self.leave_step(t, table::WAITING),
-            Event::Wake(t) => self.wake_step(t),
-            Event::Serve(c) => self.serve_step(c),
-            Event::Traffic { core, transactions } => self.traffic_step(core, transactions),
-            Event::Tick => self.tick_step(),
-        }
-    }
+    step(
+        cores,
+        gangs,
+        threads,
+        priority,
+        budget,
+        gang,
+        core,
+        state,
+        number,
+        served,
+        skipped,
+        job,
+        held,
+        occupant,
+        kept,
+        event,
+    )
 }

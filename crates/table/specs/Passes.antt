@@ -6,12 +6,9 @@ use mathlib.Core.List.{List}
 use lib.Dec.{eqb}
 use lib.ListN.{length, getD, set, length-set, replicate, length-replicate, getD-replicate}
 use lib.Seq.{getD-set-same, getD-set-other}
-use native.Mathlib.Decide.{ℕ-discrete, decLt}
+use native.Mathlib.Decide.{ℕ-discrete}
 use native.Mathlib.Omega.{arith}
 use borrow.Author.Tests.{eq-eqb, ne-eqb}
-use Rattle.coreset.specs.Set.{has, withCore, withinWidth}
-use Rattle.coreset.specs.Laws.{has-empty, has-with-same, has-with-other, within-below, within-beyond}
-use Rattle.table.specs.Numbers.{maxGangs}
 use Rattle.table.specs.Occurs.{occurs, make-not-occurs, occurs-more}
 
 module _ (xs : List ℕ) (n v : ℕ) where
@@ -59,28 +56,3 @@ module _ (xs : List ℕ) (n : ℕ) (seen : List ℕ) (p : ℕ) (e : p ≡ getD x
           ∙ sym (occurs-last xs n v (sym e ∙ s))
       go v q (no s) =
           ap (λ (x : ℕ). eqb x 1) (getD-set-other seen p v 1 0 (λ w. s (sym w))) ∙ q ∙ sym (occurs-other xs n v (λ w. s (e ∙ w)))
-
--- ---- a mask of the gangs that have one of the first n threads
-
-abbrev pub Manning : List ℕ → ℕ → ℕ → Type 0
-Manning gang n m = (g : ℕ) → g < maxGangs → has m g ≡ occurs gang n g
-
-pub manning-none : (gang : List ℕ) → Manning gang 0 0
-manning-none gang g l = has-empty g ∙ sym (occurs-none gang g)
-
--- h is the gang of thread n
-pub manning-more : (gang : List ℕ) (n m h : ℕ) → h ≡ getD gang n 0 → Manning gang n m → Manning gang (n + 1) (withinWidth maxGangs m h)
-manning-more gang n m h e k g l = go (ℕ-discrete h g) (decLt h maxGangs)
-  where
-    go : Dec (h ≡ g) → Dec (h < maxGangs) → has (withinWidth maxGangs m h) g ≡ occurs gang (n + 1) g
-    go (yes s) q =
-        ap (λ (x : ℕ). has x g) (within-below maxGangs m h (omega arith) ∙ ap (withCore m) s)
-        ∙ has-with-same m g
-        ∙ sym (occurs-last gang n g (sym e ∙ s))
-    go (no s) (yes q) =
-        ap (λ (x : ℕ). has x g) (within-below maxGangs m h q)
-        ∙ has-with-other m h g (λ w. s (sym w))
-        ∙ k g l
-        ∙ sym (occurs-other gang n g (λ w. s (e ∙ w)))
-    go (no s) (no q) =
-        ap (λ (x : ℕ). has x g) (within-beyond maxGangs m h (omega arith)) ∙ k g l ∙ sym (occurs-other gang n g (λ w. s (e ∙ w)))

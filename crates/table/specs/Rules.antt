@@ -26,6 +26,11 @@ emptyTable = record {
   core = replicate maxThreads 0;
 }
 
+-- the table of these parts
+abbrev pub tableOf : (cores gangs threads : ℕ) (priority budget gang core : List ℕ) → Table
+tableOf cores gangs threads priority budget gang core =
+    record { cores = cores; gangs = gangs; threads = threads; priority = priority; budget = budget; gang = gang; core = core }
+
 -- x is low to high
 unfoldable pub within : ℕ → ℕ → ℕ → Bool
 within low x high = leb low x && leb x high

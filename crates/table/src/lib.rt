@@ -1,14 +1,16 @@
 // The table of cores, gangs and pinned threads: its rules, the order of its gangs, and a core's first ready thread.
 ghost use mathlib.Core.Path.{_≡_};
 ghost use lib.ListN.{getD};
-ghost use Rattle.table.specs.Rules.{emptyTable, tableOk};
+ghost use Rattle.table.specs.Rules.{emptyTable};
 
 mod order;
 mod rules;
 
 pub use order::ahead;
 pub use order::first_ready;
+pub use rules::manned;
 pub use rules::priority_taken;
+pub use rules::table_ok;
 
 // How many cores, gangs and threads there is room for, and how large a priority and a budget may be.
 pub const MAX_CORES: u8 = 32;
@@ -54,25 +56,6 @@ impl Table {
             gang: [0; 128],
             core: [0; 128],
         }
-    }
-
-    // Whether the table is empty or obeys the table rules, with every unused place zero.
-    pub fn well_formed(self) -> bool
-        ensures { λ r. ⌜ r ≡ tableOk self ⌝ }
-    {
-        if !rules::sizes_ok(self.cores, self.gangs, self.threads) {
-            return false;
-        }
-        if !rules::gangs_ok(&self.priority, &self.budget, self.gangs) {
-            return false;
-        }
-        if !rules::threads_ok(&self.gang, &self.core, self.threads, self.gangs, self.cores) {
-            return false;
-        }
-        if !rules::distinct(&self.priority, self.gangs) {
-            return false;
-        }
-        rules::manned(&self.gang, self.gangs, self.threads)
     }
 }
 

@@ -34,7 +34,7 @@ pub fn first_ready<'a>(
 fn stands<'a>(state: &'a [u8; 128], core: &'a [u8; 128], c: u8, t: u8) -> bool
     ensures { λ r. ⌜ r ≡ standing (now (state .entry)) (now (core .entry)) c t ⌝ }
 {
-    at(state, t) == READY && at(core, t) == c
+    at(core, t) == c && at(state, t) == READY
 }
 
 // Thread t comes before thread u: its gang is ahead or, where neither is, its number is lower.

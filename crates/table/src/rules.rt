@@ -1,9 +1,7 @@
 // The table rules, each tested in one pass.
 ghost use mathlib.Core.Path.{_≡_};
-ghost use Prim.Native.Nat.{_≤_};
-ghost use Rattle.table.specs.Numbers.{maxGangs};
-ghost use Rattle.table.specs.Passes.{Manning};
-ghost use Rattle.table.specs.Rules.{within, sizesOk, gangOk, gangsOk, threadOk, threadsOk, taken, distinct, manned};
+ghost use Rattle.table.specs.Passes.{Marked};
+ghost use Rattle.table.specs.Rules.{within, sizesOk, gangOk, gangsOk, threadOk, threadsOk, taken, distinct, manned, tableOf, tableOk};
 use crate::MAX_BUDGET;
 use crate::MAX_CORES;
 use crate::MAX_GANGS;
@@ -30,7 +28,7 @@ fn within(low: u8, x: u8, high: u8) -> bool
 }
 
 // With no core there is nothing; else there are cores and gangs, and no more of anything than there is room for.
-pub(crate) fn sizes_ok(cores: u8, gangs: u8, threads: u8) -> bool
+fn sizes_ok(cores: u8, gangs: u8, threads: u8) -> bool
     ensures { λ r. ⌜ r ≡ sizesOk cores gangs threads ⌝ }
 {
     if cores == 0 {
@@ -52,16 +50,16 @@ fn gang_ok(g: u8, gangs: u8, priority: u8, budget: u32) -> bool
     priority == 0 && budget == 0
 }
 
-pub(crate) fn gangs_ok<'a>(priority: &'a [u8; 32], budget: &'a [u32; 32], gangs: u8) -> bool
+// Every place is tested, with no way out before the last: so the tests run side by side.
+fn gangs_ok<'a>(priority: &'a [u8; 32], budget: &'a [u32; 32], gangs: u8) -> bool
     ensures { λ r. ⌜ r ≡ gangsOk (now (priority .entry)) (now (budget .entry)) gangs ⌝ }
 {
+    let mut ok = true;
     for g in 0..MAX_GANGS {
         let i = g as usize;
-        if !gang_ok(g, gangs, priority[i], budget[i]) {
-            return false;
-        }
+        ok = ok & gang_ok(g, gangs, priority[i], budget[i]);
     }
-    true
+    ok
 }
 
 // A thread's gang and core are in the table, and an unused place is zero.
@@ -74,7 +72,7 @@ fn thread_ok(t: u8, threads: u8, gang: u8, gangs: u8, core: u8, cores: u8) -> bo
     gang == 0 && core == 0
 }
 
-pub(crate) fn threads_ok<'a>(
+fn threads_ok<'a>(
     gang: &'a [u8; 128],
     core: &'a [u8; 128],
     threads: u8,
@@ -83,50 +81,76 @@ pub(crate) fn threads_ok<'a>(
 ) -> bool
     ensures { λ r. ⌜ r ≡ threadsOk (now (gang .entry)) (now (core .entry)) threads gangs cores ⌝ }
 {
+    let mut ok = true;
     for t in 0..MAX_THREADS {
         let i = t as usize;
-        if !thread_ok(t, threads, gang[i], gangs, core[i], cores) {
-            return false;
-        }
+        ok = ok & thread_ok(t, threads, gang[i], gangs, core[i], cores);
     }
-    true
+    ok
 }
 
 // No two gangs have one priority: each is marked as it is met.
-pub(crate) fn distinct(priority: &[u8; 32], gangs: u8) -> bool
+fn distinct(priority: &[u8; 32], gangs: u8) -> bool
     ensures { λ r. ⌜ r ≡ distinct (now (priority .entry)) gangs ⌝ }
 {
     let mut seen = [0u8; 256];
+    let mut ok = true;
     for g in 0..gangs {
         let p = at(priority, g) as usize;
-        if seen[p] == 1 {
-            return false;
-        }
+        ok = ok & (seen[p] != 1);
         seen[p] = 1;
     }
-    true
+    ok
 }
 
-// The gangs that have a thread, as a mask; a gang number past the mask is left out.
-fn gangs_of(gang: &[u8; 128], threads: u8) -> u32
-    ensures { λ r. ⌜ Manning (now (gang .entry)) threads r ⌝ }
+// A mark for each gang number: 1 where one of the first `threads` threads is that gang's.
+fn gangs_of(gang: &[u8; 128], threads: u8) -> [u8; 256]
+    ensures { λ r. ⌜ Marked (now (gang .entry)) threads r ⌝ }
 {
-    let mut found: u32 = 0;
+    let mut seen = [0u8; 256];
     for t in 0..threads {
-        found = coreset::set(found, at(gang, t));
+        let g = at(gang, t) as usize;
+        seen[g] = 1;
     }
-    found
+    seen
 }
 
-// Every gang has a thread, where there are no more gangs than a mask has room for.
-pub(crate) fn manned(gang: &[u8; 128], gangs: u8, threads: u8) -> bool
-    ensures { λ r. ⌜ (gangs ≤ maxGangs → r ≡ manned (now (gang .entry)) gangs threads) ⌝ }
+// Every gang has a thread.
+pub fn manned(gang: &[u8; 128], gangs: u8, threads: u8) -> bool
+    ensures { λ r. ⌜ r ≡ manned (now (gang .entry)) gangs threads ⌝ }
 {
-    let found = gangs_of(gang, threads);
+    let seen = gangs_of(gang, threads);
+    let mut ok = true;
     for g in 0..gangs {
-        if !coreset::test(found, g) {
-            return false;
-        }
+        let i = g as usize;
+        ok = ok & (seen[i] == 1);
     }
-    true
+    ok
+}
+
+// Whether the table of these parts is empty or obeys the table rules, with every unused place zero.
+pub fn table_ok<'a>(
+    cores: u8,
+    gangs: u8,
+    threads: u8,
+    priority: &'a [u8; 32],
+    budget: &'a [u32; 32],
+    gang: &'a [u8; 128],
+    core: &'a [u8; 128],
+) -> bool
+    ensures { λ r. ⌜ r ≡ tableOk (tableOf cores gangs threads (now (priority .entry)) (now (budget .entry)) (now (gang .entry)) (now (core .entry))) ⌝ }
+{
+    if !sizes_ok(cores, gangs, threads) {
+        return false;
+    }
+    if !gangs_ok(priority, budget, gangs) {
+        return false;
+    }
+    if !threads_ok(gang, core, threads, gangs, cores) {
+        return false;
+    }
+    if !distinct(priority, gangs) {
+        return false;
+    }
+    manned(gang, gangs, threads)
 }

@@ -5,7 +5,7 @@ use mathlib.Core.Bool.{Bool, true, false, cond}
 use mathlib.Core.List.{List, [], _∷_}
 use native.Mathlib.Omega.{arith}
 use lib.Dec.{eqb, ltb, leb}
-use lib.ListN.{length}
+use lib.ListN.{length, take, drop}
 use borrow.Author.Tests.{lt-ltb, le-ltb, ltb-false, leb-true, eqb-true}
 use Rattle.wire.specs.declared.kinds.Pair.{Pair}
 use Rattle.wire.specs.declared.kinds.Stream.{Stream}
@@ -14,7 +14,7 @@ use Rattle.wire.specs.declared.record.Seen.the-variants.{Record, Refused
 use Rattle.wire.specs.declared.refusal.Refusal.{Refusal}
 use Rattle.wire.specs.declared.refusal.Refusal.the-variants.{CutShort, WrongKind, WrongLength}
 use Rattle.wire.specs.Kinds.{lengths, fitsIn, inStream}
-use Rattle.wire.specs.Record.{lengthAt, kindAt, left, recordAt}
+use Rattle.wire.specs.Record.{lengthAt, kindAt, left, recordAt, payloadOf, payloadAt}
 
 module _ (stream : Stream) (s : List ℕ) (at : ℕ) where
   -- 1: fewer than four bytes are left
@@ -96,3 +96,7 @@ within stream s at kind next =
         let l = ltb-false (left s at) (lengthAt s at + 2) ed in
         let n : at + (lengthAt s at + 2) ≡ next = cc in
         record { header = omega arith; inside = omega arith }
+
+-- its payload is the part between its header and the next record
+pub payload-of-record : (stream : Stream) (s : List ℕ) (at kind next : ℕ) → recordAt stream s at ≡ Record kind next → take (next - (at + 4)) (drop (at + 4) s) ≡ payloadAt stream s at
+payload-of-record stream s at kind next e = sym (ap (λ (r : Seen). payloadOf r s at) e)

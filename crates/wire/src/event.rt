@@ -11,6 +11,7 @@ use crate::kinds::WAIT;
 use crate::kinds::WAKE;
 use crate::number::byte_at;
 use crate::number::u32_at;
+use crate::record::HEADER;
 use crate::record::Seen;
 use crate::refusal::Refusal;
 
@@ -55,7 +56,7 @@ pub fn next_event(s: &[u8]) -> NextEvent
 {
     match crate::record::record_at(Stream::Events, s, 0) {
         Seen::Record { kind, next } => NextEvent::Event {
-            event: event_of(kind, crate::record::payload_at(Stream::Events, s, 0)),
+            event: event_of(kind, &s[HEADER..next]),
             next,
         },
         Seen::Refused(refusal) => NextEvent::Refused(refusal),

@@ -91,9 +91,10 @@ pub fn in_stream(stream: Stream, kind: u16) -> bool
 pub fn length_fits(kind: u16, len: u16) -> bool
     ensures { λ r. ⌜ r ≡ fitsIn kind len lengths ⌝ }
 {
+    let lengths = LENGTHS;
     let mut i: usize = 0;
     while i < PAIRS {
-        let p = LENGTHS[i];
+        let p = lengths[i];
         if p.kind == kind {
             if p.len == len {
                 return true;
@@ -108,9 +109,10 @@ pub fn length_fits(kind: u16, len: u16) -> bool
 pub fn length_of(kind: u16) -> u16
     ensures { λ r. ⌜ r ≡ lengthIn kind lengths ⌝ }
 {
+    let lengths = LENGTHS;
     let mut i: usize = 0;
     while i < PAIRS {
-        let p = LENGTHS[i];
+        let p = lengths[i];
         if p.kind == kind {
             return p.len;
         }

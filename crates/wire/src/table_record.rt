@@ -6,6 +6,7 @@ use crate::kinds::GANG;
 use crate::kinds::Stream;
 use crate::number::byte_at;
 use crate::number::u32_at;
+use crate::record::HEADER;
 use crate::record::Seen;
 use crate::refusal::Refusal;
 
@@ -55,7 +56,7 @@ pub fn next_table_record(s: &[u8]) -> NextTableRecord
 {
     match crate::record::record_at(Stream::Table, s, 0) {
         Seen::Record { kind, next } => NextTableRecord::Record {
-            record: table_record_of(kind, crate::record::payload_at(Stream::Table, s, 0)),
+            record: table_record_of(kind, &s[HEADER..next]),
             next,
         },
         Seen::Refused(refusal) => NextTableRecord::Refused(refusal),

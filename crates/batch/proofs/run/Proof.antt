@@ -1,107 +1,37 @@
--- `batch::run` meets its contract: each turn is lent the parts from the places on, and the loop keeps that any run on what is left completes the whole.
-use Prim.Native.Nat.{_-_}
-use native.Mathlib.Omega.{arith}
+-- `batch::run` meets its contract: the parts are the system's, and the system after it is made of the parts.
+use mathlib.Core.Path.{sym, ap}
+use denote.Ref.{now}
 use lib.ListN.{length}
+use Rattle.lock.specs.declared.Lock.{Lock}
 use Rattle.system.specs.Events.{stepOf}
+use Rattle.system.specs.System.{withLock}
 use Rattle.batch.specs.Batch.{runOf}
-use Rattle.batch.specs.Bounds.{written-fits, came-length}
-use Rattle.batch.specs.Ran.{ran}
-use Rattle.batch.proofs.Sofar.{Sofar, start, kept, ends-here, stops-here, goes-on, moves}
+use Rattle.batch.proofs.Came.{came-same}
+use borrow.Author.Needs.{needs}
 use Rattle.batch.proofs.run.Statement.{statement}
 use Rattle.batch.proofs.run.Tie as tie
 
-abbrev Inv-loop : tie.InvT-loop
-Inv-loop system₀ events out₀ read₀ written₀ system out read written =
-    Sofar events out₀ (runOf stepOf (length events) system₀ events (length out₀)) system read written out
+held-requires : tie.Need-held-requires
+held-requires c κs = search needs
 
-abbrev μ-loop : tie.MeasureT-loop
-μ-loop system₀ events out₀ read₀ written₀ system out read written = length events - read
+take-turns-requires : tie.Need-take-turns-requires
+take-turns-requires c κs = search needs
 
-loop-holds : tie.Need-loop-holds Inv-loop μ-loop
-loop-holds c = start _ _ _
+of-parts-requires : tie.Need-of-parts-requires
+of-parts-requires c κs = search needs
 
-sub-take-turn : tie.Need-sub-take-turn Inv-loop μ-loop
-sub-take-turn c = omega arith
+same-length : tie.Need-same-length
+same-length c = search needs
 
-part-take-turn-start : tie.Need-part-take-turn-start Inv-loop μ-loop
-part-take-turn-start c = omega arith
-
-part-take-turn-end : tie.Need-part-take-turn-end Inv-loop μ-loop
-part-take-turn-end c = omega arith
-
-sub-take-turn-2 : tie.Need-sub-take-turn-2 Inv-loop μ-loop
-sub-take-turn-2 c = let f = c .before .before .loop .inv in let k = kept f in omega arith
-
-part-take-turn-start-2 : tie.Need-part-take-turn-start-2 Inv-loop μ-loop
-part-take-turn-start-2 c = let f = c .before .before .loop .inv in let k = kept f in omega arith
-
-part-take-turn-end-2 : tie.Need-part-take-turn-end-2 Inv-loop μ-loop
-part-take-turn-end-2 c = omega arith
-
-take-turn-requires : tie.Need-take-turn-requires Inv-loop μ-loop
-take-turn-requires c κs = tt
-
-returns : tie.Need-returns Inv-loop μ-loop
+returns : tie.Need-returns
 returns c =
-    let k = c .before .before .before .before in
-    let l = k .before .before .before in
-    stops-here (l .before .loop .inv) (l .loop-test .taken) (k .take-turn .ensures) (c .if1 .taken)
-
-same-length : tie.Need-same-length Inv-loop μ-loop
-same-length c = came-length (returns c) (written-fits (ran _ _ _ _ _ (omega arith)))
-
-add-read : tie.Need-add-read Inv-loop μ-loop
-add-read c =
-    let k = c .before .before .before .before .before .before in
-    let l = k .before .before .before in
-    let n = goes-on (l .before .loop .inv) (l .loop-test .taken) (k .take-turn .ensures) (c .before .before .if1 .left) in
-    omega (arith, n .inside)
-
-add-written : tie.Need-add-written Inv-loop μ-loop
-add-written c =
-    let k = c .before .before .before .before .before .before .before in
-    let l = k .before .before .before in
-    let n = goes-on (l .before .loop .inv) (l .loop-test .taken) (k .take-turn .ensures) (c .before .before .before .if1 .left) in
-    omega (arith, n .fits, l .before .before .before .before .good)
-
-loop-less : tie.Need-loop-less Inv-loop μ-loop
-loop-less c =
-    let k = c .before .before .before .before .before .before .before in
-    let l = k .before .before .before in
-    let m = moves (l .before .loop .inv) (l .loop-test .taken) (k .take-turn .ensures) (c .before .before .before .if1 .left) in
-    omega arith
-
-loop-again : tie.Need-loop-again Inv-loop μ-loop
-loop-again c =
-    let k = c .before .before .before .before .before .before .before in
-    let l = k .before .before .before in
-    goes-on (l .before .loop .inv) (l .loop-test .taken) (k .take-turn .ensures) (c .before .before .before .if1 .left)
-
-same-length-2 : tie.Need-same-length-2 Inv-loop μ-loop
-same-length-2 c = kept (c .before .loop .inv)
-
-returns-2 : tie.Need-returns-2 Inv-loop μ-loop
-returns-2 c = ends-here (c .before .loop .inv) (c .loop-test .left)
+    let turns = c .before .before .before .before in
+    let held = turns .before .before .before .before in
+    let a = held .before .before .before .before .before .before .before .before .before .before .before .before .before .before .before .before .before .before .before .before .before .before .before .args in
+    let ev = now (a .events) in
+    came-same (turns .take-turns .result) (ap (λ (l : Lock). runOf stepOf (length ev) (withLock (a .system) l) ev (length (now (a .out)))) (held .held .ensures))
+    (sym (c .of-parts .ensures)) (turns .take-turns .ensures)
 
 pub run-spec : {M : Type 1} → statement M
 run-spec =
-    tie.close
-    (tie.spec
-    Inv-loop
-    μ-loop
-    loop-holds
-    sub-take-turn
-    part-take-turn-start
-    part-take-turn-end
-    sub-take-turn-2
-    part-take-turn-start-2
-    part-take-turn-end-2
-    take-turn-requires
-    same-length
-    returns
-    add-read
-    add-written
-    loop-less
-    loop-again
-    same-length-2
-    returns-2)
+    tie.close (tie.spec held-requires take-turns-requires of-parts-requires same-length returns)

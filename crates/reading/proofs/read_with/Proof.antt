@@ -1,97 +1,125 @@
 -- `reading::read_with`: each turn reads the record at the place, and the loop keeps that reading on gives the whole reading.
-use Prim.Native.Nat.{_+_, _-_}
-use mathlib.Core.Path.{ap, _∙_}
+use Prim.Native.Nat.{ℕ, _-_, _+_}
+use mathlib.Core.List.{List}
+use mathlib.Core.Path.{_≡_, refl, sym, _∙_}
 use native.Mathlib.Omega.{arith}
 use borrow.Author.Needs.{needs}
 use denote.Ref.{now}
-use lib.ListN.{length, drop}
+use lib.ListN.{length, take, drop}
 use Rattle.wire.specs.RecordLaws.{Within}
-use Rattle.reading.specs.declared.rules.Verdict.{Verdict}
-use Rattle.reading.specs.Reading.{told}
-use Rattle.reading.proofs.Sofar.{Sofar, start, ends, stops, takes, goes}
+use Rattle.table.specs.declared.Table.{Table}
+use Rattle.reading.specs.Parts.{tableWith, takenOf}
+use Rattle.reading.specs.Turn.{Turn, turnOf}
+use Rattle.reading.proofs.Sofar.{Sofar, start, ends, turn, read, unread, stops, takes, goes}
 use Rattle.reading.proofs.read_with.Statement.{statement}
 use Rattle.reading.proofs.read_with.Tie as tie
 
 abbrev Inv-loop : tie.InvT-loop
-Inv-loop default bytes table₀ at₀ table at = Sofar default bytes table at
+Inv-loop default bytes sizes₀ priority₀ budget₀ gang₀ core₀ at₀ sizes priority budget gang core at =
+    Sofar default bytes (tableWith sizes priority budget gang core) at
 
 abbrev μ-loop : tie.MeasureT-loop
-μ-loop default bytes table₀ at₀ table at = length bytes - at
-
-empty-requires : tie.Need-empty-requires Inv-loop μ-loop
-empty-requires c κs = tt
+μ-loop default bytes sizes₀ priority₀ budget₀ gang₀ core₀ at₀ sizes priority budget gang core at =
+    length bytes - at
 
 loop-holds : tie.Need-loop-holds Inv-loop μ-loop
-loop-holds c = start _ _ _ (c .empty .ensures)
+loop-holds c = start _ _
 
-sub-take-next : tie.Need-sub-take-next Inv-loop μ-loop
-sub-take-next c = omega arith
+sub-next-table-record : tie.Need-sub-next-table-record Inv-loop μ-loop
+sub-next-table-record c = omega arith
 
-part-take-next-start : tie.Need-part-take-next-start Inv-loop μ-loop
-part-take-next-start c = omega arith
+part-next-table-record-start : tie.Need-part-next-table-record-start Inv-loop μ-loop
+part-next-table-record-start c = omega arith
 
-part-take-next-end : tie.Need-part-take-next-end Inv-loop μ-loop
-part-take-next-end c = omega arith
+part-next-table-record-end : tie.Need-part-next-table-record-end Inv-loop μ-loop
+part-next-table-record-end c = omega arith
 
-take-next-requires : tie.Need-take-next-requires Inv-loop μ-loop
-take-next-requires c κs = tt
+next-table-record-requires : tie.Need-next-table-record-requires Inv-loop μ-loop
+next-table-record-requires c κs = tt
 
-enum-told : tie.Need-enum-told Inv-loop μ-loop
-enum-told c = search needs
+enum-known-record : tie.Need-enum-known-record Inv-loop μ-loop
+enum-known-record c = search needs
 
-told-requires : tie.Need-told-requires Inv-loop μ-loop
-told-requires c κs = tt
+take-requires : tie.Need-take-requires Inv-loop μ-loop
+take-requires c κs = tt
+
+enum-known-verdict : tie.Need-enum-known-verdict Inv-loop μ-loop
+enum-known-verdict c = search needs
+
+refused-at-requires : tie.Need-refused-at-requires Inv-loop μ-loop
+refused-at-requires c κs = tt
+
+-- the table that the parts make up where a turn begins
+abbrev so-far : tie.At-loop Inv-loop μ-loop → Table
+so-far c = tableWith (c .loop .sizes) (c .loop .priority) (c .loop .budget) (c .loop .gang) (c .loop .core)
+
+-- what a record that was found came to
+module _ (c : tie.After-take Inv-loop μ-loop) where
+  abbrev asked : tie.After-next-table-record Inv-loop μ-loop
+  asked = c .before .before .before .before .before .before .before .before
+
+  abbrev loop : tie.At-loop Inv-loop μ-loop
+  loop = asked .before .before .before
+
+  abbrev bytes : List ℕ
+  bytes = now (loop .before .before .args .bytes)
+
+  abbrev its : Turn
+  its =
+      turn (c .before .before .before .before .before .before .«record» .given .0 .1 .0)
+      (takenOf (c .take .result) (c .take .last .1 .1 .0) (c .take .last .1 .1 .1 .0) (c .take .last .1 .1 .1 .1 .0) (c .take .last .1 .1 .1 .1 .1 .0))
+
+  turned : its ≡ turnOf (loop .before .before .args .default) (so-far loop) (take (length bytes - loop .loop .at) (drop (loop .loop .at) bytes))
+  turned = read _ _ _ _ _ _ (sym (asked .next-table-record .ensures) ∙ c .before .before .before .before .before .before .«record» .given .1) (c .take .ensures)
 
 returns : tie.Need-returns Inv-loop μ-loop
 returns c =
     let k = c .before .before .before .before in
-    let l = k .before .before .before .loop in
-    c .told .ensures ∙ stops _ _ (l .table) (l .at) (l .inv) (k .before .before .loop-test .taken) (k .take-next .result) (k .take-next .ensures) _ (c .before .enum-told .given .1)
+    let l = loop k .loop in
+    c .refused-at .ensures ∙ stops _ _ (so-far (loop k)) (l .at) (l .inv) (asked k .before .before .loop-test .taken) (its k) (turned k) _ (c .before .before .verdict .given .1)
 
-enum-told-2 : tie.Need-enum-told-2 Inv-loop μ-loop
-enum-told-2 c = search needs
+enum-told : tie.Need-enum-told Inv-loop μ-loop
+enum-told c = search needs
 
--- what the turn took, and that the loop may go on after it
-module _ (c : tie.After-struct-known Inv-loop μ-loop) where
-  abbrev turned : tie.After-take-next Inv-loop μ-loop
-  turned = c .before .before .before .before .before
+-- that the loop may go on after it
+module _ (c : tie.After-more Inv-loop μ-loop) where
+  abbrev took : tie.After-take Inv-loop μ-loop
+  took = c .before .before .before
 
-  abbrev loop : tie.At-loop Inv-loop μ-loop
-  loop = turned .before .before .before
+  inside : Within (drop (loop took .loop .at) (bytes took)) 0 (its took .size)
+  inside = takes _ _ (so-far (loop took)) (loop took .loop .at) (loop took .loop .inv) (asked took .before .before .loop-test .taken) (its took) (turned took) (c .before .enum-told .given .1)
 
-  took : Within (drop (loop .loop .at) (now (loop .before .before .before .args .bytes))) 0 (turned .take-next .result .size)
-  took =
-      takes _ _ (loop .loop .table) (loop .loop .at) (loop .loop .inv) (turned .before .before .loop-test .taken) (turned .take-next .result)
-      (turned .take-next .ensures) (c .before .before .enum-told2 .given .1)
-
-  next : Sofar (loop .before .before .before .args .default) (now (loop .before .before .before .args .bytes))
-      (turned .take-next .result .taken .table) (loop .loop .at + turned .take-next .result .size)
-  next =
-      goes _ _ (loop .loop .table) (loop .loop .at) (loop .loop .inv) (turned .before .before .loop-test .taken) (turned .take-next .result)
-      (turned .take-next .ensures) (c .before .before .enum-told2 .given .1)
+  next : Sofar (loop took .before .before .args .default) (bytes took) (its took .taken .table) (loop took .loop .at + its took .size)
+  next = goes _ _ (so-far (loop took)) (loop took .loop .at) (loop took .loop .inv) (asked took .before .before .loop-test .taken) (its took) (turned took) (c .before .enum-told .given .1)
 
 add-at : tie.Need-add-at Inv-loop μ-loop
 add-at c = omega (arith, next c .inside)
 
 loop-less : tie.Need-loop-less Inv-loop μ-loop
-loop-less c = omega (arith, took c .header)
+loop-less c = omega (arith, inside c .header)
 
 loop-again : tie.Need-loop-again Inv-loop μ-loop
 loop-again c = next c
 
-ending-requires : tie.Need-ending-requires Inv-loop μ-loop
-ending-requires c κs = tt
+enum-known-refusal : tie.Need-enum-known-refusal Inv-loop μ-loop
+enum-known-refusal c = search needs
 
-told-requires-2 : tie.Need-told-requires-2 Inv-loop μ-loop
-told-requires-2 c κs = tt
+refused-at-requires-2 : tie.Need-refused-at-requires-2 Inv-loop μ-loop
+refused-at-requires-2 c κs = tt
 
 returns-2 : tie.Need-returns-2 Inv-loop μ-loop
 returns-2 c =
-    let k = c .before .before in
-    let l = k .before .loop in
-    c .told2 .ensures
-    ∙ ap (λ (v : Verdict). told v (l .table) (l .at)) (c .before .ending .ensures)
-    ∙ ends _ _ (l .table) (l .at) (l .inv) (k .loop-test .left)
+    let k = c .before .before .before .before in
+    let w = k .before .before .before in
+    let l = w .loop in
+    let found = sym (k .next-table-record .ensures) ∙ c .before .before .refusal .given .1 in
+    c .refused-at2 .ensures ∙ stops _ _ (so-far w) (l .at) (l .inv) (k .before .before .loop-test .taken) _ (unread _ _ _ _ found) _ refl
+
+ended-requires : tie.Need-ended-requires Inv-loop μ-loop
+ended-requires c κs = tt
+
+returns-3 : tie.Need-returns-3 Inv-loop μ-loop
+returns-3 c = c .ended .ensures ∙ ends _ _ _ _ (c .before .before .loop .inv) (c .before .loop-test .left)
 
 pub read-with-spec : {M : Type 1} → statement M
 read-with-spec =
@@ -99,19 +127,22 @@ read-with-spec =
     (tie.spec
     Inv-loop
     μ-loop
-    empty-requires
     loop-holds
-    sub-take-next
-    part-take-next-start
-    part-take-next-end
-    take-next-requires
-    enum-told
-    told-requires
+    sub-next-table-record
+    part-next-table-record-start
+    part-next-table-record-end
+    next-table-record-requires
+    enum-known-record
+    take-requires
+    enum-known-verdict
+    refused-at-requires
     returns
-    enum-told-2
+    enum-told
     add-at
     loop-less
     loop-again
-    ending-requires
-    told-requires-2
-    returns-2)
+    enum-known-refusal
+    refused-at-requires-2
+    returns-2
+    ended-requires
+    returns-3)

@@ -1,7 +1,7 @@
 -- `gjalvorn_apply` meets its contract: the event that the kind names, or 2.
 use mathlib.Core.Path.{sym, ap, _∙_}
+use Rattle.ffi.specs.Calls.{appliedBy}
 use borrow.Author.Needs.{needs}
-use Rattle.ffi.specs.Calls.{answeredOf, appliedBy}
 use Rattle.ffi.proofs.events.gjalvorn_apply.Statement.{statement}
 use Rattle.ffi.proofs.events.gjalvorn_apply.Tie as tie
 
@@ -11,11 +11,8 @@ event-named-requires c κs = search needs
 enum-known-known : tie.Need-enum-known-known
 enum-known-known c = search needs
 
-apply-requires : tie.Need-apply-requires
-apply-requires c κs = search needs
-
-reply-of-requires : tie.Need-reply-of-requires
-reply-of-requires c κs = search needs
+applied-requires : tie.Need-applied-requires
+applied-requires c κs = search needs
 
 enum-told : tie.Need-enum-told
 enum-told c = search needs
@@ -23,20 +20,15 @@ enum-told c = search needs
 unknown-requires : tie.Need-unknown-requires
 unknown-requires c κs = search needs
 
-reply-of-requires-2 : tie.Need-reply-of-requires-2
-reply-of-requires-2 c κs = search needs
-
 returns : tie.Need-returns
 returns c =
-    let k = c .before .before in
-    c .reply-of .ensures ∙ ap answeredOf (c .before .apply .ensures)
-    ∙ sym (ap (appliedBy _) (sym (k .before .before .before .event-named .ensures) ∙ k .before .known .given .1))
+    let known = c .before .before in
+    c .applied .ensures ∙ sym (ap (appliedBy _) (sym (known .before .before .event-named .ensures) ∙ known .known .given .1))
 
 returns-2 : tie.Need-returns-2
 returns-2 c =
-    let k = c .before .before in
-    c .reply-of2 .ensures ∙ ap answeredOf (c .before .unknown .ensures)
-    ∙ sym (ap (appliedBy _) (sym (k .before .before .event-named .ensures) ∙ k .enum-told .given .1))
+    let told = c .before in
+    c .unknown .ensures ∙ sym (ap (appliedBy _) (sym (told .before .before .event-named .ensures) ∙ told .enum-told .given .1))
 
 pub gjalvorn-apply-spec : {M : Type 1} → statement M
 gjalvorn-apply-spec =
@@ -44,10 +36,8 @@ gjalvorn-apply-spec =
     (tie.spec
     event-named-requires
     enum-known-known
-    apply-requires
-    reply-of-requires
+    applied-requires
     enum-told
     unknown-requires
-    reply-of-requires-2
     returns
     returns-2)

@@ -1,18 +1,15 @@
--- `gjalvorn_traffic` meets its contract: its answer is that of `System::traffic`, as a record.
-use mathlib.Core.Path.{ap, _∙_}
+-- `gjalvorn_traffic` meets its contract: it is its event, applied.
 use borrow.Author.Needs.{needs}
-use Rattle.ffi.specs.Calls.{answeredOf}
+use Rattle.system.specs.Events.{stepOf}
 use Rattle.ffi.proofs.events.gjalvorn_traffic.Statement.{statement}
 use Rattle.ffi.proofs.events.gjalvorn_traffic.Tie as tie
 
-traffic-requires : tie.Need-traffic-requires
-traffic-requires c κs = search needs
-
-reply-of-requires : tie.Need-reply-of-requires
-reply-of-requires c κs = search needs
+applied-requires : tie.Need-applied-requires
+applied-requires c κs = search needs
 
 returns : tie.Need-returns
-returns c = c .reply-of .ensures ∙ ap answeredOf (c .before .traffic .ensures)
+unfolding stepOf
+returns c = c .applied .ensures
 
 pub gjalvorn-traffic-spec : {M : Type 1} → statement M
-gjalvorn-traffic-spec = tie.close (tie.spec traffic-requires reply-of-requires returns)
+gjalvorn-traffic-spec = tie.close (tie.spec applied-requires returns)

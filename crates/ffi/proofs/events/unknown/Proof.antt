@@ -1,18 +1,26 @@
 -- `unknown` meets its contract: 2 on a well-formed system, and 14 on any other.
-use mathlib.Core.Path.{sym, _∙_}
-use borrow.Author.Needs.{needs}
+use mathlib.Core.Path.{sym, ap, _∙_}
 use Rattle.system.specs.Cases.{checked-yes, checked-no}
+use Rattle.ffi.specs.Calls.{answeredOf}
+use borrow.Author.Needs.{needs}
 use Rattle.ffi.proofs.events.unknown.Statement.{statement}
 use Rattle.ffi.proofs.events.unknown.Tie as tie
 
 well-formed-requires : tie.Need-well-formed-requires
 well-formed-requires c κs = search needs
 
+refused-requires : tie.Need-refused-requires
+refused-requires c κs = search needs
+
+refused-requires-2 : tie.Need-refused-requires-2
+refused-requires-2 c κs = search needs
+
 returns : tie.Need-returns
-returns c = sym (checked-yes _ _ (sym (c .before .well-formed .ensures) ∙ c .if1 .taken))
+returns c = c .refused .ensures ∙ sym (ap answeredOf (checked-yes _ _ (sym (c .before .before .well-formed .ensures) ∙ c .before .if1 .taken)))
 
 returns-2 : tie.Need-returns-2
-returns-2 c = sym (checked-no _ _ (sym (c .before .well-formed .ensures) ∙ c .if1 .left))
+returns-2 c = c .refused2 .ensures ∙ sym (ap answeredOf (checked-no _ _ (sym (c .before .before .well-formed .ensures) ∙ c .before .if1 .left)))
 
 pub unknown-spec : {M : Type 1} → statement M
-unknown-spec = tie.close (tie.spec well-formed-requires returns returns-2)
+unknown-spec =
+    tie.close (tie.spec well-formed-requires refused-requires refused-requires-2 returns returns-2)

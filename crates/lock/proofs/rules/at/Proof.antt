@@ -1,8 +1,9 @@
--- `lock::rules::at` meets its contract: past the last place stands the default.
+-- `lock::rules::at` meets its contract: within the list it does not matter what stands past its end.
 use borrow.Author.Needs.{needs}
 use denote.Ref.{now}
 use mathlib.Core.Path.{sym}
 use lib.ListN.{List·getD-eq-default}
+use Rattle.ranges.specs.Lists.{getD-within}
 use Rattle.lock.proofs.rules.at.Statement.{statement}
 use Rattle.lock.proofs.rules.at.Tie as tie
 
@@ -10,10 +11,10 @@ shared-slice-read-result : tie.Need-shared-slice-read-result
 shared-slice-read-result c = search needs
 
 returns : tie.Need-returns
-returns c = search needs
+returns c = let a = c .before .before .args in getD-within (now (a .xs)) (a .i) 0 (a .past) (c .before .if1 .taken)
 
 returns-2 : tie.Need-returns-2
-returns-2 c = sym (List·getD-eq-default (now (c .before .args .xs)) 0 (c .if1 .left))
+returns-2 c = sym (List·getD-eq-default (now (c .before .args .xs)) (c .before .args .past) (c .if1 .left))
 
 pub at-spec : {M : Type 1} → statement M
 at-spec = tie.close (tie.spec shared-slice-read-result returns returns-2)

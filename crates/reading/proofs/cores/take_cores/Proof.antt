@@ -9,7 +9,7 @@ refused-requires : tie.Need-refused-requires
 refused-requires c κs = tt
 
 returns : tie.Need-returns
-returns c = c .refused .ensures ∙ sym (cores-again _ _ (c .before .if1 .taken))
+returns c = λ p m g x. c .refused .ensures p m g x ∙ sym (cores-again _ _ (c .before .if1 .taken))
 
 one-to-requires : tie.Need-one-to-requires
 one-to-requires c κs = tt
@@ -20,7 +20,7 @@ refused-requires-2 c κs = tt
 returns-2 : tie.Need-returns-2
 returns-2 c =
     let out = sym (c .before .before .one-to .ensures) ∙ not-true _ (c .before .if2 .taken) in
-    c .refused2 .ensures ∙ sym (cores-out _ _ (c .before .before .before .if1 .left) out)
+    λ p m g x. c .refused2 .ensures p m g x ∙ sym (cores-out _ _ (c .before .before .before .if1 .left) out)
 
 accepted-requires : tie.Need-accepted-requires
 accepted-requires c κs = tt
@@ -28,7 +28,7 @@ accepted-requires c κs = tt
 returns-3 : tie.Need-returns-3
 returns-3 c =
     let fits = sym (c .before .before .one-to .ensures) ∙ not-false _ (c .before .if2 .left) in
-    c .accepted .ensures ∙ sym (cores-in _ _ (c .before .before .before .if1 .left) fits)
+    λ p m g x. c .accepted .ensures p m g x ∙ sym (cores-in _ _ (c .before .before .before .if1 .left) fits)
 
 pub take-cores-spec : {M : Type 1} → statement M
 take-cores-spec =

@@ -30,24 +30,16 @@ take-thread-requires : tie.Need-take-thread-requires
 take-thread-requires c κs = tt
 
 returns : tie.Need-returns
-returns c =
-    let a = c .before .before .before .before .args in
-    c .take-cores .ensures ∙ sym (ap (taken (a .default) (a .table)) (c .before .before .one .given .1))
+returns c = c .take-cores .ensures _ _ _ _ ∙ sym (ap (taken _ _) (c .before .before .one .given .1))
 
 returns-2 : tie.Need-returns-2
-returns-2 c =
-    let a = c .before .before .before .before .args in
-    c .take-gang .ensures ∙ sym (ap (taken (a .default) (a .table)) (c .before .before .one2 .given .1))
+returns-2 c = c .take-gang .ensures _ _ ∙ sym (ap (taken _ _) (c .before .before .before .before .one2 .given .1))
 
 returns-3 : tie.Need-returns-3
-returns-3 c =
-    let a = c .before .before .before .before .args in
-    c .take-gang2 .ensures ∙ sym (ap (taken (a .default) (a .table)) (c .before .before .one3 .given .1))
+returns-3 c = c .take-gang2 .ensures _ _ ∙ sym (ap (taken _ _) (c .before .before .before .before .one3 .given .1))
 
 returns-4 : tie.Need-returns-4
-returns-4 c =
-    let a = c .before .before .before .before .args in
-    c .take-thread .ensures ∙ sym (ap (taken (a .default) (a .table)) (c .before .before .one4 .given .1))
+returns-4 c = c .take-thread .ensures _ _ ∙ sym (ap (taken _ _) (c .before .before .before .before .one4 .given .1))
 
 pub take-spec : {M : Type 1} → statement M
 take-spec =

@@ -1,59 +1,47 @@
--- `states_ok` meets its contract: the loop keeps that every place passed is right, and one that is not decides.
-use denote.Ref.{now}
-use mathlib.Core.Bool.{true, false}
-use Rattle.state.specs.Rules.{statePlace, statesOk}
-use Rattle.ranges.specs.Range.{make-every, not-every}
-use borrow.Author.Tests.{not-true, not-false}
-use borrow.Author.Count.{below-none, below-more}
-use mathlib.Core.Bool.{true}
-use mathlib.Core.Path.{_≡_, sym, _∙_}
-use native.Mathlib.Omega.{arith}
-use Prim.Native.Nat.{ℕ, _≤_, _<_, _-_}
+-- `states_ok` meets its contract: the loop keeps whether every place passed is right.
 use borrow.Author.Needs.{needs}
+use Prim.Native.Nat.{_≤_, _-_}
+use mathlib.Core.Path.{_≡_, refl, sym, ap₂, _∙_}
+use mathlib.Core.Bool.{_&&_}
+use native.Mathlib.Omega.{arith}
+use Rattle.ranges.specs.Range.{every, every-more}
+use Rattle.state.specs.Rules.{statePlace, statesOk}
 use Rattle.state.proofs.rules.states_ok.Statement.{statement}
 use Rattle.state.proofs.rules.states_ok.Tie as tie
 
 abbrev Inv-loop : tie.InvT-loop
-Inv-loop state n t₀ t = (t ≤ 128) × ((i : ℕ) → i < t → statePlace n state i ≡ true)
+Inv-loop state n ok₀ t₀ ok t = (t ≤ 128) × (ok ≡ every t (statePlace n state))
 
 abbrev μ-loop : tie.MeasureT-loop
-μ-loop state n t₀ t = 128 - t
+μ-loop state n ok₀ t₀ ok t = 128 - t
 
 loop-holds : tie.Need-loop-holds Inv-loop μ-loop
-loop-holds c = (omega arith, below-none _)
+unfolding every
+loop-holds c = (omega arith, refl)
 
-thread-at-requires : tie.Need-thread-at-requires Inv-loop μ-loop
-thread-at-requires c κs = search needs
+cast-i : tie.Need-cast-i Inv-loop μ-loop
+cast-i c = search needs
+
+element-copy-out-state-ok : tie.Need-element-copy-out-state-ok Inv-loop μ-loop
+element-copy-out-state-ok c = search needs
 
 state-ok-requires : tie.Need-state-ok-requires Inv-loop μ-loop
 state-ok-requires c κs = search needs
 
+add-t : tie.Need-add-t Inv-loop μ-loop
+add-t c = search needs
+
+loop-less : tie.Need-loop-less Inv-loop μ-loop
+loop-less c = search needs
+
+loop-again : tie.Need-loop-again Inv-loop μ-loop
+loop-again c = (omega arith, ap₂ _&&_ (c .before .before .before .loop .inv .1) (c .state-ok .ensures) ∙ sym (every-more _ _))
+
 returns : tie.Need-returns Inv-loop μ-loop
 unfolding statesOk
 returns c =
-    let a = c .before .before .before .before .before .before .args in
-    let l = c .before .before .before .before .before .loop in
-    let no : c .before .state-ok .result ≡ false = not-true _ (c .if1 .taken) in
-    let wrong : statePlace (a .n) (now (a .state)) (l .t) ≡ false = cc in
-    sym (not-every 128 _ (l .t) (c .before .before .before .before .loop-test .taken) wrong)
-
-add-t : tie.Need-add-t Inv-loop μ-loop
-add-t c = omega arith
-
-loop-less : tie.Need-loop-less Inv-loop μ-loop
-loop-less c = omega arith
-
-loop-again : tie.Need-loop-again Inv-loop μ-loop
-loop-again c =
-    let a = c .before .before .before .before .before .before .args in
-    let l = c .before .before .before .before .before .loop in
-    let yes : c .before .state-ok .result ≡ true = not-false _ (c .if1 .left) in
-    let right : statePlace (a .n) (now (a .state)) (l .t) ≡ true = cc in
-    (omega arith, below-more _ _ (l .inv .1) right)
-
-returns-2 : tie.Need-returns-2 Inv-loop μ-loop
-unfolding statesOk
-returns-2 c = sym (make-every 128 _ (λ i l. c .before .loop .inv .1 i (omega arith)))
+    let e : c .before .loop .t ≡ 128 = omega arith in
+    rw e at (c .before .loop .inv .1)
 
 pub states-ok-spec : {M : Type 1} → statement M
 states-ok-spec =
@@ -62,10 +50,10 @@ states-ok-spec =
     Inv-loop
     μ-loop
     loop-holds
-    thread-at-requires
+    cast-i
+    element-copy-out-state-ok
     state-ok-requires
-    returns
     add-t
     loop-less
     loop-again
-    returns-2)
+    returns)

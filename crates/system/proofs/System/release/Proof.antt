@@ -1,26 +1,15 @@
--- `System::release` meets its contract: the event on a well-formed system, and 14 on any other.
-use Rattle.system.specs.Cases.{checked-yes, checked-no}
-use mathlib.Core.Path.{_≡_, sym, ap, ap₂, _∙_}
+-- `System::release` meets its contract: it is `apply` of its event.
+use Rattle.system.specs.Events.{stepOf}
 use borrow.Author.Needs.{needs}
 use Rattle.system.proofs.System.release.Statement.{statement}
 use Rattle.system.proofs.System.release.Tie as tie
 
-well-formed-requires : tie.Need-well-formed-requires
-well-formed-requires c κs = search needs
-
-release-step-requires : tie.Need-release-step-requires
-release-step-requires c κs = search needs
-
-refused-requires : tie.Need-refused-requires
-refused-requires c κs = search needs
+apply-requires : tie.Need-apply-requires
+apply-requires c κs = search needs
 
 returns : tie.Need-returns
-returns c = c .release-step .ensures ∙ sym (checked-yes _ _ (sym (c .before .before .well-formed .ensures) ∙ c .before .if1 .taken))
-
-returns-2 : tie.Need-returns-2
-returns-2 c = c .refused .ensures ∙ sym (checked-no _ _ (sym (c .before .before .well-formed .ensures) ∙ c .before .if1 .left))
+unfolding stepOf
+returns c = c .apply .ensures
 
 pub release-spec : {M : Type 1} → statement M
-release-spec =
-    tie.close
-    (tie.spec well-formed-requires release-step-requires refused-requires returns returns-2)
+release-spec = tie.close (tie.spec apply-requires returns)

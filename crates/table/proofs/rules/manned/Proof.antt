@@ -1,38 +1,33 @@
--- `table::rules::manned`: the mask tells of each gang whether it has a thread, and the loop keeps that those passed have one.
-use Prim.Native.Nat.{ℕ, _≤_, _<_, _-_}
+-- `table::rules::manned`: the marks tell of each gang whether it has a thread, and the loop keeps whether those passed have one.
+use Prim.Native.Nat.{_≤_, _-_}
 use native.Mathlib.Omega.{arith}
-use mathlib.Core.Path.{_≡_, sym, _∙_}
-use mathlib.Core.Bool.{true}
-use borrow.Author.Tests.{not-true, not-false}
-use borrow.Author.Count.{below-none, below-more}
-use Rattle.ranges.specs.Range.{make-every, not-every}
-use Rattle.coreset.specs.Set.{has}
+use mathlib.Core.Bool.{_&&_}
+use mathlib.Core.Path.{_≡_, refl, sym, ap₂, _∙_}
+use Rattle.ranges.specs.Range.{every, every-more}
+use Rattle.table.specs.Occurs.{occurs}
 use Rattle.table.specs.Rules.{manned}
+use borrow.Author.Needs.{needs}
 use Rattle.table.proofs.rules.manned.Statement.{statement}
 use Rattle.table.proofs.rules.manned.Tie as tie
 
 abbrev Inv-loop : tie.InvT-loop
-Inv-loop gang gangs threads found g₀ g = (g ≤ gangs) × ((h : ℕ) → h < g → has found h ≡ true)
+Inv-loop gang gangs threads seen ok₀ g₀ ok g = (g ≤ gangs) × (ok ≡ every g (occurs gang threads))
 
 abbrev μ-loop : tie.MeasureT-loop
-μ-loop gang gangs threads found g₀ g = gangs - g
+μ-loop gang gangs threads seen ok₀ g₀ ok g = gangs - g
 
 gangs-of-requires : tie.Need-gangs-of-requires Inv-loop μ-loop
-gangs-of-requires c κs = tt
+gangs-of-requires c κs = search needs
 
 loop-holds : tie.Need-loop-holds Inv-loop μ-loop
-loop-holds c = (omega arith, below-none _)
+unfolding every
+loop-holds c = (omega arith, refl)
 
-test-requires : tie.Need-test-requires Inv-loop μ-loop
-test-requires c κs = tt
+cast-i : tie.Need-cast-i Inv-loop μ-loop
+cast-i c = omega arith
 
-returns : tie.Need-returns Inv-loop μ-loop
-unfolding manned
-returns c =
-    λ few.
-    let g = c .before .before .before .loop .g in
-    let missing = sym (c .before .before .before .before .gangs-of .ensures g (omega arith)) ∙ sym (c .before .test .ensures) ∙ not-true _ (c .if1 .taken) in
-    sym (not-every _ _ g (c .before .before .loop-test .taken) missing)
+array-read-ok : tie.Need-array-read-ok Inv-loop μ-loop
+array-read-ok c = omega arith
 
 add-g : tie.Need-add-g Inv-loop μ-loop
 add-g c = omega arith
@@ -41,12 +36,13 @@ loop-less : tie.Need-loop-less Inv-loop μ-loop
 loop-less c = omega arith
 
 loop-again : tie.Need-loop-again Inv-loop μ-loop
-loop-again c = (omega arith, below-more _ _ (c .before .before .before .loop .inv .1) (sym (c .before .test .ensures) ∙ not-false _ (c .if1 .left)))
+loop-again c = (omega arith, ap₂ _&&_ (c .before .loop .inv .1) (c .before .before .gangs-of .ensures .marks _ (omega arith)) ∙ sym (every-more _ _))
 
-returns-2 : tie.Need-returns-2 Inv-loop μ-loop
+returns : tie.Need-returns Inv-loop μ-loop
 unfolding manned
-returns-2 c =
-    λ few. sym (make-every _ _ (λ i l. sym (c .before .before .gangs-of .ensures i (omega arith)) ∙ c .before .loop .inv .1 i (omega arith)))
+returns c =
+    let e : c .before .loop .g ≡ c .before .before .before .args .gangs = omega arith in
+    rw e at (c .before .loop .inv .1)
 
 pub manned-spec : {M : Type 1} → statement M
 manned-spec =
@@ -56,9 +52,9 @@ manned-spec =
     μ-loop
     gangs-of-requires
     loop-holds
-    test-requires
-    returns
+    cast-i
+    array-read-ok
     add-g
     loop-less
     loop-again
-    returns-2)
+    returns)

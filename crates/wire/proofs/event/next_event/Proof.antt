@@ -1,11 +1,10 @@
 -- `wire::event::next_event` meets its contract: the record question says which case holds, and the payload is the record's.
-use mathlib.Core.Path.{_≡_, sym, ap, ap₂, _∙_}
-use mathlib.Core.List.{List}
-use Prim.Native.Nat.{ℕ}
+use mathlib.Core.Path.{_≡_, sym, ap, _∙_}
 use denote.Ref.{now}
 use Rattle.wire.specs.declared.record.Seen.{Seen}
 use Rattle.wire.specs.declared.kinds.Stream.the-variants as stream
 use Rattle.wire.specs.Record.{payloadAt}
+use Rattle.wire.specs.RecordLaws.{Within, within, payload-of-record}
 use Rattle.wire.specs.Event.{eventOf, eventSeen, nextEvent}
 use Rattle.wire.specs.declared.event.Event.{Event}
 use Rattle.wire.specs.declared.event.NextEvent.the-variants as found
@@ -19,8 +18,20 @@ record-at-requires c κs = search needs
 enum-known-kind : tie.Need-enum-known-kind
 enum-known-kind c = search needs
 
-payload-at-requires : tie.Need-payload-at-requires
-payload-at-requires c κs = search needs
+-- the record that was found ends at `next`
+found-within : (c : tie.After-known-told) → Within (now (c .before .before .before .before .before .args .s)) 0 (c .before .kind .given .0 .1 .0)
+found-within c =
+    within stream.Events (now (c .before .before .before .before .before .args .s)) 0 _ _
+    (sym (c .before .before .before .record-at .ensures) ∙ c .before .kind .given .1)
+
+sub-event-of : tie.Need-sub-event-of
+sub-event-of c = found-within c .header
+
+part-event-of-start : tie.Need-part-event-of-start
+part-event-of-start c = found-within c .header
+
+part-event-of-end : tie.Need-part-event-of-end
+part-event-of-end c = found-within c .inside
 
 event-of-requires : tie.Need-event-of-requires
 event-of-requires c κs = search needs
@@ -33,8 +44,9 @@ unfolding nextEvent
 returns c =
     let s = now (c .before .before .before .before .before .before .before .args .s) in
     let k = c .before .before .before .kind .given in
-    ap (λ (e : Event). found.Event e (k .0 .1 .0)) (c .event-of .ensures ∙ ap (eventOf (k .0 .0)) (c .before .payload-at .ensures))
-    ∙ sym (ap (λ (r : Seen). eventSeen r (payloadAt stream.Events s 0)) (sym (c .before .before .before .before .before .record-at .ensures) ∙ k .1))
+    let seen = sym (c .before .before .before .before .before .record-at .ensures) ∙ k .1 in
+    ap (λ (e : Event). found.Event e (k .0 .1 .0)) (c .event-of .ensures ∙ ap (eventOf (k .0 .0)) (payload-of-record stream.Events s 0 _ _ seen))
+    ∙ sym (ap (λ (r : Seen). eventSeen r (payloadAt stream.Events s 0)) seen)
 
 returns-2 : tie.Need-returns-2
 unfolding nextEvent
@@ -48,7 +60,9 @@ next-event-spec =
     (tie.spec
     record-at-requires
     enum-known-kind
-    payload-at-requires
+    sub-event-of
+    part-event-of-start
+    part-event-of-end
     event-of-requires
     enum-known-refusal
     returns

@@ -12,10 +12,10 @@ use Rattle.wire.proofs.kinds.length_fits.Statement.{statement}
 use Rattle.wire.proofs.kinds.length_fits.Tie as tie
 
 abbrev Inv-loop : tie.InvT-loop
-Inv-loop kind len i₀ i = (i ≤ 12) × (fitsIn kind len (drop i lengths) ≡ fitsIn kind len lengths)
+Inv-loop kind len pairs i₀ i = (i ≤ 12) × (fitsIn kind len (drop i lengths) ≡ fitsIn kind len lengths)
 
 abbrev μ-loop : tie.MeasureT-loop
-μ-loop kind len i₀ i = 12 - i
+μ-loop kind len pairs i₀ i = 12 - i
 
 loop-holds : tie.Need-loop-holds Inv-loop μ-loop
 loop-holds c = (search needs, refl)

@@ -11,10 +11,10 @@ use Rattle.wire.proofs.kinds.length_of.Statement.{statement}
 use Rattle.wire.proofs.kinds.length_of.Tie as tie
 
 abbrev Inv-loop : tie.InvT-loop
-Inv-loop kind i₀ i = (i ≤ 12) × (lengthIn kind (drop i lengths) ≡ lengthIn kind lengths)
+Inv-loop kind pairs i₀ i = (i ≤ 12) × (lengthIn kind (drop i lengths) ≡ lengthIn kind lengths)
 
 abbrev μ-loop : tie.MeasureT-loop
-μ-loop kind i₀ i = 12 - i
+μ-loop kind pairs i₀ i = 12 - i
 
 loop-holds : tie.Need-loop-holds Inv-loop μ-loop
 loop-holds c = (search needs, refl)

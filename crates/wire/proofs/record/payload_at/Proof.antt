@@ -6,7 +6,7 @@ use native.Mathlib.Omega.{arith}
 use denote.Ref.{now}
 use Rattle.wire.specs.declared.record.Seen.{Seen}
 use Rattle.wire.specs.Record.{payloadOf}
-use Rattle.wire.specs.RecordLaws.{Within, within}
+use Rattle.wire.specs.RecordLaws.{Within, within, payload-of-record}
 use Rattle.wire.proofs.record.payload_at.Statement.{statement}
 use Rattle.wire.proofs.record.payload_at.Tie as tie
 
@@ -45,7 +45,7 @@ slice-aggregate-result c = search needs
 returns : tie.Need-returns
 returns c =
     let a = c .before .before .before .before .before .before .args in
-    sym (ap (λ (r : Seen). payloadOf r (now (a .s)) (a .place)) (sym (c .before .before .before .before .record-at .ensures) ∙ c .before .before .next .given .1))
+    payload-of-record (a .stream) (now (a .s)) (a .place) _ _ (sym (c .before .before .before .before .record-at .ensures) ∙ c .before .before .next .given .1)
 
 returns-2 : tie.Need-returns-2
 returns-2 c =
