@@ -1,11 +1,12 @@
 // Gjalvorn for C99 and C++: the verified core of a real-time gang scheduler, in libffi.a for x86-64. "Document 01" is its scope document.
 //
-// A system is a plain value. Every call takes it by value; an event gives the next system beside its answer, and the caller keeps
-// whichever it wants. The calls keep no state and no pointer and allocate nothing, and every call comes back for every input.
+// A system is a plain value. The calls take it by value; an event gives the next system beside its answer, and the caller keeps
+// whichever it wants. Only gjalvorn_apply_lent, and gjalvorn_apply_to over it, change a system where it is. The calls keep no state
+// and no pointer and allocate nothing, and every call comes back for every input.
 //
 // What a caller owes: a pointer is not null, also where no bytes follow, and is valid for the length that follows it; `out` does not
-// overlap `events`. Nothing else is owed: any bit pattern of a system may be handed in, and one that is not well formed is refused
-// with 14.
+// overlap `events`; each part that is lent has as many places as its parameter says, and overlaps no other. Nothing else is owed: any
+// bit pattern of a system may be handed in, and one that is not well formed is refused with 14.
 #ifndef GJALVORN_H
 #define GJALVORN_H
 
@@ -143,6 +144,13 @@ typedef struct gjalvorn_answered {
     gjalvorn_answer answer;
 } gjalvorn_answered;
 
+// What an event on lent parts comes to beside them. The owing and the locked cores after the event are the answer's.
+typedef struct gjalvorn_outcome {
+    uint8_t holder;   // the holder after the event
+    uint32_t blocked; // the blocked cores after the event
+    gjalvorn_answer answer;
+} gjalvorn_outcome;
+
 // An event as a value.
 typedef struct gjalvorn_event {
     uint16_t kind;         // 16 RELEASE to 22 TICK
@@ -212,6 +220,42 @@ gjalvorn_answered gjalvorn_tick(gjalvorn_system system);
 
 // Any event, by its kind. A kind that is no event's is refused with 2, after 14.
 gjalvorn_answered gjalvorn_apply(gjalvorn_system system, gjalvorn_event event);
+
+// ---- An event in place, for firmware that applies events one by one: no system is copied.
+
+// Any event, as gjalvorn_apply does it, on the parts of a system, which are lent for the call and changed where they are. The caller
+// then stores the holder, the blocked, the owing and the locked cores that it is given. A refused event changes nothing.
+gjalvorn_outcome gjalvorn_apply_lent(
+    uint8_t cores, uint8_t gangs, uint8_t threads,
+    const uint8_t priority[GJALVORN_MAX_GANGS], const uint32_t budget[GJALVORN_MAX_GANGS],
+    const uint8_t gang[GJALVORN_MAX_THREADS], const uint8_t core[GJALVORN_MAX_THREADS],
+    uint8_t state[GJALVORN_MAX_THREADS],
+    uint32_t number[GJALVORN_MAX_GANGS], uint32_t served[GJALVORN_MAX_GANGS],
+    uint32_t skipped[GJALVORN_MAX_GANGS], uint32_t job[GJALVORN_MAX_GANGS],
+    uint8_t holder, uint32_t locked, uint32_t blocked, uint32_t owing, uint8_t occupant[GJALVORN_MAX_CORES],
+    uint32_t kept[GJALVORN_MAX_CORES],
+    gjalvorn_event event);
+
+// Any event on a system, which is changed where it is: lends the parts, stores what comes back and gives the answer. A refused event
+// changes nothing. It is defined here and is no call of the library's.
+static inline gjalvorn_answer gjalvorn_apply_to(gjalvorn_system *system, gjalvorn_event event)
+{
+    gjalvorn_table *table = &system->table;
+    gjalvorn_ledger *ledger = &system->ledger;
+    gjalvorn_lock *lock = &system->lock;
+    gjalvorn_outcome outcome = gjalvorn_apply_lent(
+        table->cores, table->gangs, table->threads, table->priority, table->budget, table->gang, table->core,
+        system->state,
+        ledger->number, ledger->served, ledger->skipped, ledger->job,
+        lock->holder, lock->locked, lock->blocked, lock->owing, lock->occupant,
+        system->kept,
+        event);
+    lock->holder = outcome.holder;
+    lock->locked = outcome.answer.locked;
+    lock->blocked = outcome.blocked;
+    lock->owing = outcome.answer.owing;
+    return outcome.answer;
+}
 
 // ---- The questions. Each is refused with 14 for a system that is not well formed, then with 6 for a number that is not in the table.
 

@@ -16,6 +16,10 @@ pub fn check(proved: &Inputs<Proved>, model: &Inputs<Model>) -> Result<(), &'sta
             "the tables' readings differ",
         ),
         (answers == model.answers(), "the answers differ"),
+        (
+            answers == proved.answers_by_value(),
+            "the answers by value differ",
+        ),
         (outputs == model.outputs(), "the batches differ"),
         (proved.served() == model.served(), "the SERVEs differ"),
         (proved.outcome().0 == ACCEPTED, "the table is refused"),

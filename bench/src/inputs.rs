@@ -3,8 +3,9 @@
 use gjalvorn::{AnswerRecord, Batched};
 use gjalvorn_model::{read_table, Event, ANSWER_SIZE};
 
+use crate::proved;
 use crate::records::{self, Size};
-use crate::side::Side;
+use crate::side::{Proved, Side};
 use crate::stream::stream;
 
 /// The events of one batch call.
@@ -111,5 +112,18 @@ impl<'a, S: Side> Inputs<'a, S> {
             S::answer(answer, &system)
         };
         self.before.iter().zip(&self.serves).map(serve).collect()
+    }
+}
+
+impl Inputs<'_, Proved> {
+    /// The answers to the stream, the system by value.
+    pub fn answers_by_value(&self) -> Vec<AnswerRecord> {
+        let mut system = self.start;
+        let answer = |&event| {
+            let (after, answer) = proved::applied(system, event);
+            system = after;
+            answer
+        };
+        self.events.iter().map(answer).collect()
     }
 }

@@ -19,17 +19,18 @@ use records::{Size, LARGEST, SMALL};
 use side::{Model, Proved};
 use timing::{Pair, REPEATS};
 
-/// The four measures of one table.
+/// The five measures of one table.
 struct Figures {
     batch: Pair,
     event: Pair,
+    by_value: Pair,
     serve: Pair,
     table: Pair,
 }
 
 fn main() -> ExitCode {
     println!("medians of {REPEATS} repeats of each side, in turn; nanoseconds");
-    println!("table    one     proved    model  ratio");
+    println!("table    one       proved    model  ratio");
     match (figures(LARGEST), figures(SMALL)) {
         (Ok(largest), Ok(small)) => {
             print_last(&largest, &small);
@@ -51,11 +52,13 @@ fn figures(size: Size) -> Result<Figures, &'static str> {
     let figures = Figures {
         batch: Pair::measure(|| proved.time_batches(), || model.time_batches()),
         event: Pair::measure(|| proved.time_events(), || model.time_events()),
+        by_value: Pair::measure(|| proved.time_by_value(), || model.time_events()),
         serve: Pair::measure(|| proved.time_serves(), || model.time_serves()),
         table: Pair::measure(|| proved.time_table(), || model.time_table()),
     };
     print_row(&case, "batch", &figures.batch);
     print_row(&case, "event", &figures.event);
+    print_row(&case, "by value", &figures.by_value);
     print_row(&case, "SERVE", &figures.serve);
     print_row(&case, "table", &figures.table);
     Ok(figures)
@@ -64,13 +67,16 @@ fn figures(size: Size) -> Result<Figures, &'static str> {
 fn print_row(case: &Case, one: &str, pair: &Pair) {
     let (name, ratio) = (case.size.name, pair.ratio());
     println!(
-        "{name:<8} {one:<6} {:>8.1} {:>8.1} {ratio:>6.2}",
+        "{name:<8} {one:<8} {:>8.1} {:>8.1} {ratio:>6.2}",
         pair.proved, pair.model
     );
 }
 
 fn print_last(largest: &Figures, small: &Figures) {
-    println!("batch: one event of a batch of {BATCH}; event: one by apply, of the same stream;");
+    println!("batch: one event of a batch of {BATCH}; event: one by apply, of the same stream, in place;");
+    println!(
+        "by value: the same, the proved system handed over and back (the model's is in place);"
+    );
     println!("SERVE: one by apply, each on a copy of the system before it; table: one read_table");
     println!(
         "one event: {:.0} ns, one SERVE: {:.0} ns (largest table; RT-Gang reports 380 to 910 ns added to a \

@@ -4,7 +4,8 @@ use std::ptr;
 use std::time::{Duration, Instant};
 
 use crate::inputs::Inputs;
-use crate::side::Side;
+use crate::proved;
+use crate::side::{Proved, Side};
 
 /// The repeats of each side; an odd number has a middle one.
 pub const REPEATS: usize = 31;
@@ -64,6 +65,21 @@ impl<S: Side> Inputs<'_, S> {
             spent += since.elapsed();
         }
         each(spent, self.serves.len())
+    }
+}
+
+/// What the proved library alone has.
+impl Inputs<'_, Proved> {
+    /// The events of `time_events`, the system by value.
+    pub fn time_by_value(&self) -> f64 {
+        let mut system = self.start;
+        let since = Instant::now();
+        for &event in &self.events {
+            let (after, answer) = proved::applied(system, opaque(event));
+            system = after;
+            opaque(answer);
+        }
+        each(since.elapsed(), self.events.len())
     }
 }
 

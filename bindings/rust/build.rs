@@ -5,10 +5,19 @@ use std::env;
 use std::path::{Path, PathBuf};
 
 const ARCHIVE: &str = "GJALVORN_ARCHIVE";
+const LIBRARY: &str = "libffi.a";
 const BUILT: &str = "../../target/staticlib/libffi.a";
 
 fn main() {
     let archive = env::var_os(ARCHIVE).map_or_else(built_here, PathBuf::from);
+    // The linker is told a folder and a library's name, so another file name would link something else.
+    assert!(
+        archive.ends_with(LIBRARY),
+        "{} names {}, which is not called {}",
+        ARCHIVE,
+        archive.display(),
+        LIBRARY
+    );
     let folder = archive.parent().unwrap_or_else(|| Path::new("."));
     println!("cargo:rustc-link-search=native={}", folder.display());
     println!("cargo:rerun-if-env-changed={}", ARCHIVE);

@@ -46,6 +46,10 @@ static void system_and_events(void)
     SIZE("Answered", gjalvorn_answered);
     FIELD("Answered", gjalvorn_answered, system);
     FIELD("Answered", gjalvorn_answered, answer);
+    SIZE("Outcome", gjalvorn_outcome);
+    FIELD("Outcome", gjalvorn_outcome, holder);
+    FIELD("Outcome", gjalvorn_outcome, blocked);
+    FIELD("Outcome", gjalvorn_outcome, answer);
     SIZE("EventValue", gjalvorn_event);
     FIELD("EventValue", gjalvorn_event, kind);
     FIELD("EventValue", gjalvorn_event, number);

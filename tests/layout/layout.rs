@@ -1,7 +1,8 @@
 //! Prints the size of every struct of the Rust bindings and the place of every field in it, in the order of layout.c.
 
 use gjalvorn::raw::{
-    AnswerRecord, Answered, Batched, EventValue, Found, Ledger, Lock, System, SystemRead, Table,
+    AnswerRecord, Answered, Batched, EventValue, Found, Ledger, Lock, Outcome, System, SystemRead,
+    Table,
 };
 use std::mem::{size_of, MaybeUninit};
 use std::ptr::addr_of;
@@ -28,6 +29,7 @@ fn main() {
     layout!(System: table, state, ledger, lock, kept);
     layout!(AnswerRecord: refusal, value, number, owing, locked);
     layout!(Answered: system, answer);
+    layout!(Outcome: holder, blocked, answer);
     layout!(EventValue: kind, number, transactions);
     layout!(Found: refusal, value);
     layout!(SystemRead: system, number, place);

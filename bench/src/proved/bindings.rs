@@ -11,6 +11,10 @@ pub fn apply(system: &mut System, event: Event) -> AnswerRecord {
     system.apply(event)
 }
 
+pub fn applied(system: System, event: Event) -> (System, AnswerRecord) {
+    system.applied(event.into())
+}
+
 pub fn batch(system: &mut System, events: &[u8], out: &mut [u8]) -> Batched {
     system.batch(events, out)
 }

@@ -11,6 +11,7 @@ extern "C" {
     // No shim: only a result is a struct, and its place is an argument before the others.
     fn gjalvorn_read_table(read: *mut TableRead, bytes: *const u8, length: usize);
     fn bench_apply(system: *mut System, event: *const EventValue, answer: *mut AnswerRecord);
+    fn bench_applied(system: *mut System, event: *const EventValue, answer: *mut AnswerRecord);
     fn bench_batch(
         system: *mut System,
         events: *const u8,
@@ -45,6 +46,16 @@ pub fn apply(system: &mut System, event: Event) -> AnswerRecord {
         bench_apply(system, &event.into(), answer.as_mut_ptr());
         answer.assume_init()
     }
+}
+
+pub fn applied(mut system: System, event: Event) -> (System, AnswerRecord) {
+    let mut answer = MaybeUninit::uninit();
+    // SAFETY: the system and the event are there, and the call fills in the answer.
+    let answer = unsafe {
+        bench_applied(&mut system, &event.into(), answer.as_mut_ptr());
+        answer.assume_init()
+    };
+    (system, answer)
 }
 
 pub fn batch(system: &mut System, events: &[u8], out: &mut [u8]) -> Batched {

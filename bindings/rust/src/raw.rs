@@ -94,6 +94,19 @@ pub struct Answered {
     pub answer: AnswerRecord,
 }
 
+/// What an event on lent parts comes to beside them; the answer has the owing
+/// and the locked cores.
+#[repr(C)]
+#[derive(Clone, Copy, Debug, PartialEq, Eq)]
+pub struct Outcome {
+    /// The holder after the event.
+    pub holder: u8,
+    /// The blocked cores after the event.
+    pub blocked: u32,
+    /// The answer.
+    pub answer: AnswerRecord,
+}
+
 /// An event by its kind, which need not be an event's.
 #[repr(C)]
 #[derive(Clone, Copy, Debug, PartialEq, Eq)]
@@ -143,7 +156,8 @@ pub struct Batched {
     pub number: u8,
 }
 
-// A byte slice is handed over as its pointer and its length.
+// A byte slice is handed over as its pointer and its length, an array that is
+// lent as its pointer.
 #[link(name = "ffi", kind = "static")]
 extern "C" {
     pub fn gjalvorn_read_table(bytes: *const u8, length: usize) -> SystemRead;
@@ -164,6 +178,27 @@ extern "C" {
     pub fn gjalvorn_traffic(system: System, core: u8, transactions: u32) -> Answered;
     pub fn gjalvorn_tick(system: System) -> Answered;
     pub fn gjalvorn_apply(system: System, event: EventValue) -> Answered;
+    pub fn gjalvorn_apply_lent(
+        cores: u8,
+        gangs: u8,
+        threads: u8,
+        priority: *const [u8; 32],
+        budget: *const [u32; 32],
+        gang: *const [u8; 128],
+        core: *const [u8; 128],
+        state: *mut [u8; 128],
+        number: *mut [u32; 32],
+        served: *mut [u32; 32],
+        skipped: *mut [u32; 32],
+        job: *mut [u32; 32],
+        holder: u8,
+        locked: u32,
+        blocked: u32,
+        owing: u32,
+        occupant: *mut [u8; 32],
+        kept: *mut [u32; 32],
+        event: EventValue,
+    ) -> Outcome;
 
     pub fn gjalvorn_occupant(system: System, core: u8) -> Found;
     pub fn gjalvorn_stopped(system: System, core: u8) -> Found;

@@ -1,2 +1,3 @@
 -- What the calls for C and Rust come to.
 pub mod Calls
+pub mod Outcomes

@@ -33,12 +33,12 @@ pub struct EventValue {
 }
 
 // The event that a kind names, if it names one.
-enum Named {
+pub(crate) enum Named {
     Event(Event),
     Unknown,
 }
 
-fn event_named(value: EventValue) -> Named
+pub(crate) fn event_named(value: EventValue) -> Named
     ensures { λ r. ⌜ r ≡ namedBy value ⌝ }
 {
     let kind = value.kind;

@@ -11,10 +11,12 @@ use reading::SystemRead;
 use system::System;
 
 mod events;
+mod lent;
 mod questions;
 
 pub use events::Answered;
 pub use events::EventValue;
+pub use lent::Outcome;
 pub use questions::Found;
 
 // Reads a whole table into its fresh system.

@@ -8,6 +8,7 @@ use gjalvorn_model as model;
 use model::{Event, Refusal};
 use proved::{AnswerRecord, EventValue};
 
+use crate::by_value;
 use crate::compare::{holds, same, same_bytes, same_system, Outcome};
 use crate::convert;
 use crate::coverage::{Coverage, Target};
@@ -18,6 +19,12 @@ use crate::question::Question;
 pub struct Pair {
     pub model: model::System,
     pub proved: proved::System,
+}
+
+/// An event, and the systems that it meets.
+pub struct Before {
+    pub pair: Pair,
+    pub event: EventValue,
 }
 
 impl Pair {
@@ -57,9 +64,9 @@ impl Pair {
         Ok((pair, model.number))
     }
 
-    /// An event by the call that takes any event.
+    /// An event by the method that takes any event.
     pub fn apply(&mut self, event: Event, seen: &mut Coverage) -> Outcome {
-        let before = self.model.clone();
+        let before = self.before(convert::event(event).into());
         let answer = self.model.apply(event);
         let given = self.proved.apply(convert::event(event));
         let expected = convert::answer(answer, &self.model);
@@ -68,9 +75,9 @@ impl Pair {
         Ok(())
     }
 
-    /// An event by its own call.
+    /// An event by its own method.
     pub fn call(&mut self, event: Event, seen: &mut Coverage) -> Outcome {
-        let before = self.model.clone();
+        let before = self.before(convert::event(event).into());
         let (m, p) = (&mut self.model, &mut self.proved);
         let (answer, given) = match event {
             Event::Release { gang } => (m.release(gang), p.release(gang)),
@@ -85,7 +92,7 @@ impl Pair {
         };
         let expected = convert::answer(answer, &self.model);
         self.judge(
-            format_args!("{event:?} by its own call"),
+            format_args!("{event:?} by its own method"),
             &before,
             expected,
             given,
@@ -97,7 +104,7 @@ impl Pair {
     /// An event by its kind, whose other fields may be set where the event has
     /// none: they count for nothing.
     pub fn apply_value(&mut self, event: Event, value: EventValue, seen: &mut Coverage) -> Outcome {
-        let before = self.model.clone();
+        let before = self.before(value);
         let answer = self.model.apply(event);
         let given = self.proved.apply_kind(value);
         let expected = convert::answer(answer, &self.model);
@@ -109,8 +116,8 @@ impl Pair {
     /// An event of a kind that is no event's. The model has no such call: it is
     /// refused with 2, or 14 before it, and changes nothing.
     pub fn apply_unknown(&mut self, value: EventValue, seen: &mut Coverage) -> Outcome {
-        let before = self.model.clone();
-        let refusal = if before.well_formed() {
+        let before = self.before(value);
+        let refusal = if self.model.well_formed() {
             seen.hit(Target::UnknownKind);
             Refusal::WrongKind
         } else {
@@ -120,8 +127,8 @@ impl Pair {
             refusal: refusal.number(),
             value: 0,
             number: 0,
-            owing: before.owing,
-            locked: before.locked,
+            owing: self.model.owing,
+            locked: self.model.locked,
         };
         let given = self.proved.apply_kind(value);
         self.judge(format_args!("{value:?}"), &before, expected, given)?;
@@ -129,20 +136,44 @@ impl Pair {
         Ok(())
     }
 
-    /// An answer and the whole system; a refused event changed nothing.
+    /// What an event is about to meet.
+    pub fn before(&self, event: EventValue) -> Before {
+        Before {
+            pair: self.clone(),
+            event,
+        }
+    }
+
+    /// An answer and the whole system, of the event in place and of each of its
+    /// forms by value; a refused event changed nothing.
     fn judge(
         &self,
         what: Arguments,
-        before: &model::System,
+        before: &Before,
         expected: AnswerRecord,
         given: AnswerRecord,
     ) -> Outcome {
         same(what, expected, given)?;
         same_system(what, &self.model, &self.proved)?;
+        self.judge_by_value(what, before, expected)?;
         holds(
             format_args!("{what}: refused, and the system is changed"),
-            given.refusal == 0 || self.model == *before,
+            given.refusal == 0 || self.model == before.pair.model,
         )
+    }
+
+    /// The same event by value.
+    pub fn judge_by_value(
+        &self,
+        what: Arguments,
+        before: &Before,
+        expected: AnswerRecord,
+    ) -> Outcome {
+        for (form, (system, answer)) in by_value::forms(&before.pair.proved, before.event) {
+            same(format_args!("{what}, {form}"), expected, answer)?;
+            same_system(format_args!("{what}, {form}"), &self.model, &system)?;
+        }
+        Ok(())
     }
 
     pub fn ask(&self, question: Question, seen: &mut Coverage) -> Outcome {

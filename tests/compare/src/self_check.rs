@@ -27,6 +27,7 @@ pub fn run() -> (usize, Vec<String>) {
     values(&mut wrong);
     outputs(&mut wrong);
     calls(&mut wrong);
+    by_value(&mut wrong);
     (count, missed)
 }
 
@@ -142,4 +143,25 @@ fn calls(wrong: Judge) {
     wrong("a batch".into(), batched.map(drop));
     pair.model.cores = 0;
     wrong("well formed".into(), pair.well_formed().map(drop));
+}
+
+/// An event whose system by value is another, or whose answer is.
+fn by_value(wrong: Judge) {
+    let event = Event::Tick;
+    let pair = some_pair();
+    let before = pair.before(convert::event(event).into());
+    let mut after = pair;
+    let answer = after.proved.tick();
+    after.model.tick();
+    let mut other = answer;
+    other.number ^= 1;
+    wrong(
+        "an answer by value".into(),
+        after.judge_by_value(format_args!(""), &before, other),
+    );
+    after.model.owing ^= 1;
+    wrong(
+        "a system by value".into(),
+        after.judge_by_value(format_args!(""), &before, answer),
+    );
 }

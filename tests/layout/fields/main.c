@@ -28,6 +28,7 @@ static const theme THEMES[] = {
     {"given: gjalvorn_read", reading_results},
     {"given: gjalvorn_answer", answers},
     {"taken: gjalvorn_event", events_by_kind},
+    {"lent: the parts of a system, and given: gjalvorn_outcome", events_in_place},
     {"given: gjalvorn_batched, and the lent output", batch_results},
     {"given: gjalvorn_batched, with no room", batch_room},
     {"given: 14, for any bit pattern", any_bit_pattern},

@@ -87,6 +87,41 @@ void events_by_kind(void)
     expect_same(NO_EVENT, 0, unknown);
 }
 
+// An event in place does what the same event does by value. Gives whether it is accepted.
+static bool accepted_in_place(gjalvorn_system system, gjalvorn_event event)
+{
+    gjalvorn_answered wanted = gjalvorn_apply(system, event);
+    gjalvorn_answer answer = gjalvorn_apply_to(&system, event);
+    expect_answer(&answer, &wanted.answer);
+    expect_system(&system, &wanted.system);
+    return answer.refusal == GJALVORN_ACCEPTED;
+}
+
+// Every event and two kinds that are no event's, about every number. Gives how many are accepted.
+static size_t count_in_place(gjalvorn_system system)
+{
+    size_t count = 0;
+    for (uint16_t kind = GJALVORN_RELEASE - 1; kind <= NO_EVENT; kind++) {
+        for (uint16_t number = 0; number <= UINT8_MAX; number++) {
+            gjalvorn_event event = {.kind = kind, .number = (uint8_t)number, .transactions = TRANSACTIONS};
+            count += accepted_in_place(system, event);
+        }
+    }
+    return count;
+}
+
+// On the known system and on one that is busy, each gang's RELEASE, each core's SERVE and each TICK is accepted beside others, and each
+// number past the table is refused. A lock that is free with cores locked is not well formed.
+void events_in_place(void)
+{
+    enum { LEAST = GJALVORN_MAX_GANGS + GJALVORN_MAX_CORES + UINT8_MAX + 1 };
+    gjalvorn_system known = known_named();
+    expect("accepted on the known system", count_in_place(known) > LEAST, true);
+    expect("accepted on a busy system", count_in_place(busy()) > LEAST, true);
+    known.lock.holder = GJALVORN_NONE;
+    expect("accepted where it is not well formed", count_in_place(known), 0);
+}
+
 // Three events and one byte more, answered in a lent output with room to spare: what is past the answers is untouched.
 void batch_results(void)
 {

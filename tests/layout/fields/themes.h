@@ -25,6 +25,7 @@ void bytes_looked_at(void);
 void reading_results(void);
 void answers(void);
 void events_by_kind(void);
+void events_in_place(void);
 void batch_results(void);
 void batch_room(void);
 void any_bit_pattern(void);
