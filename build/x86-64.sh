@@ -3,7 +3,7 @@
 x86_root=$(cd "$(dirname "${BASH_SOURCE[0]}")/.." && pwd)
 
 # What a machine of another processor needs. Its own cargo may come with no x86-64 library, so Debian's is taken.
-x86_packages=(gcc-x86-64-linux-gnu rustc cargo libstd-rust-dev:amd64 qemu-user)
+x86_packages=(gcc-x86-64-linux-gnu libc6-dev-amd64-cross rustc cargo libstd-rust-dev:amd64 qemu-user)
 
 x86_native() {
     [ "$(uname -m)" = x86_64 ]
