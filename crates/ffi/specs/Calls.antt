@@ -1,5 +1,4 @@
 -- The calls for C and Rust, by what the calls that they stand for come to.
-use Prim.Native.Nat.{ℕ}
 use mathlib.Core.Bool.{cond}
 use lib.Dec.{eqb}
 use Rattle.wire.specs.Answer.{recordOf}

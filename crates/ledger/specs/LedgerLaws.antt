@@ -5,7 +5,7 @@ use mathlib.Core.List.{List}
 use native.Mathlib.Omega.{arith}
 use borrow.Author.Tests.{lt-ltb, le-ltb}
 use lib.ListN.{length, getD, length-set}
-use lib.Seq.{getD-set-same, getD-set-other, set-out}
+use lib.Seq.{getD-set-same, getD-set-other}
 use Rattle.ledger.specs.declared.Ledger.{Ledger}
 use Rattle.ledger.specs.Releases.{lastNumber, numberAt, servedAt, skippedAt, jobAt, raised, raisedAt, emptyLedger, servedOf, skippedOf}
 
@@ -78,21 +78,6 @@ skipped-other l g d ne = record {
   same-skipped = raised-other (l .skipped) g d ne;
   same-job = refl;
 }
-
--- ---- past the 32 places a release changes nothing
-
-pub served-beyond : (l : Ledger) (g : ℕ) → Sized l → 32 ≤ g → servedOf l g ≡ l
-served-beyond l g s h =
-    let n : length (l .number) ≤ g = let e = s .number-size in omega arith in
-    let v : length (l .served) ≤ g = let e = s .served-size in omega arith in
-    let j : length (l .job) ≤ g = let e = s .job-size in omega arith in
-    simp set-out
-
-pub skipped-beyond : (l : Ledger) (g : ℕ) → Sized l → 32 ≤ g → skippedOf l g ≡ l
-skipped-beyond l g s h =
-    let n : length (l .number) ≤ g = let e = s .number-size in omega arith in
-    let k : length (l .skipped) ≤ g = let e = s .skipped-size in omega arith in
-    simp set-out
 
 -- ---- gang g's own numbers
 

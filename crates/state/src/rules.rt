@@ -1,6 +1,5 @@
 // The rules of the threads' states and of the kept counts: each a part of well-formedness.
 ghost use mathlib.Core.Path.{_≡_};
-ghost use lib.ListN.{getD};
 ghost use Rattle.state.specs.Rules.{stateOk, countOk, statesOk, countsOk};
 
 // Whether s may be the state at place t, where there are n threads.

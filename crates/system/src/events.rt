@@ -1,7 +1,7 @@
 // The seven events, for any system whatever: 14 first, then the event's own refusals and its effect.
 ghost use mathlib.Core.Path.{_≡_};
 ghost use Rattle.table.specs.Numbers.{finished, waiting};
-ghost use Rattle.system.specs.Events.{refusedBy, checked, releaseStep, leaveStep, wakeStep, serveStep, trafficStep, tickStep, stepOf, applyOf};
+ghost use Rattle.system.specs.Events.{checked, releaseStep, leaveStep, wakeStep, serveStep, trafficStep, tickStep, stepOf, applyOf};
 use crate::System;
 use wire::answer::Answer;
 use wire::event::Event;

@@ -1,6 +1,6 @@
 -- `ledger::set_value` meets its contract: past the end nothing is stored, and nothing changes.
 use mathlib.Core.Path.{sym}
-use Rattle.ranges.specs.Lists.{set-beyond}
+use lib.Seq.{set-out}
 use borrow.Author.Needs.{needs}
 use Rattle.ledger.proofs.set_value.Statement.{statement}
 use Rattle.ledger.proofs.set_value.Tie as tie
@@ -18,7 +18,7 @@ returns : tie.Need-returns
 returns c = search needs
 
 returns-2 : tie.Need-returns-2
-returns-2 c = sym (set-beyond _ _ _ (c .if1 .left))
+returns-2 c = sym (set-out _ _ _ (c .if1 .left))
 
 pub set-value-spec : {M : Type 1} → statement M
 set-value-spec = tie.close (tie.spec mul-values slice-write-values same-length returns returns-2)

@@ -1,6 +1,6 @@
 -- `set_thread` meets its contract: past the end nothing is stored, and nothing changes.
 use mathlib.Core.Path.{sym}
-use Rattle.ranges.specs.Lists.{set-beyond}
+use lib.Seq.{set-out}
 use borrow.Author.Needs.{needs}
 use Rattle.state.proofs.threads.set_thread.Statement.{statement}
 use Rattle.state.proofs.threads.set_thread.Tie as tie
@@ -15,7 +15,7 @@ returns : tie.Need-returns
 returns c = search needs
 
 returns-2 : tie.Need-returns-2
-returns-2 c = sym (set-beyond _ _ _ (c .if1 .left))
+returns-2 c = sym (set-out _ _ _ (c .if1 .left))
 
 pub set-thread-spec : {M : Type 1} → statement M
 set-thread-spec = tie.close (tie.spec slice-write-xs same-length returns returns-2)

@@ -1,5 +1,5 @@
 -- `serve` meets its contract: the lock is served with the core's first ready thread, that thread's gang, and whether it is ahead.
-use mathlib.Core.Path.{sym, _∙_}
+use mathlib.Core.Path.{_∙_}
 use denote.Ref.{now}
 use Rattle.system.specs.Cases.{serve-absent}
 use Rattle.system.proofs.Parts.{serve-args, parts-refused, parts-serviced}

@@ -1,5 +1,5 @@
 -- `wire::event::next_event` meets its contract: the record question says which case holds, and the payload is the record's.
-use mathlib.Core.Path.{_≡_, sym, ap, _∙_}
+use mathlib.Core.Path.{sym, ap, _∙_}
 use denote.Ref.{now}
 use Rattle.wire.specs.declared.record.Seen.{Seen}
 use Rattle.wire.specs.declared.kinds.Stream.the-variants as stream
