@@ -16,3 +16,4 @@ pub mod EveryState
 pub mod Services
 pub mod Demand3
 pub mod AtRest
+pub mod NeverNone

@@ -1,0 +1,106 @@
+-- `reason_in` meets its contract: each return is one way through the tests.
+use Prim.Native.Nat.{ℕ}
+use mathlib.Core.Bool.{true, false}
+use mathlib.Core.Path.{_≡_, sym, ap, _∙_}
+use borrow.Author.Needs.{needs}
+use Rattle.coreset.specs.Set.{has}
+use Rattle.system.specs.declared.System.{System}
+use Rattle.system.specs.System.{stateIn, coreIn, running}
+use Rattle.reason.specs.WhyLaws.{reason-finished, reason-waiting, reason-locked, reason-displaced, reason-ready}
+use Rattle.reason.proofs.reason_in.Statement.{statement}
+use Rattle.reason.proofs.reason_in.Tie as tie
+
+thread-at-requires : tie.Need-thread-at-requires
+thread-at-requires c κs = search needs
+
+is-running-requires : tie.Need-is-running-requires
+is-running-requires c κs = search needs
+
+thread-at-requires-2 : tie.Need-thread-at-requires-2
+thread-at-requires-2 c κs = search needs
+
+test-requires : tie.Need-test-requires
+test-requires c κs = search needs
+
+ready-reason-requires : tie.Need-ready-reason-requires
+ready-reason-requires c κs = search needs
+
+-- the thread's state
+module _ (c : tie.After-thread-at) where
+  abbrev asked : System
+  asked = c .before .before .before .before .before .before .args .t1
+
+  abbrev thread : ℕ
+  thread = c .before .before .before .before .before .before .args .t
+
+  abbrev its : stateIn asked thread ≡ c .thread-at .result
+  its = sym (c .thread-at .ensures)
+
+-- whether it runs, where it is neither finished nor waiting
+module _ (c : tie.After-is-running) where
+  abbrev state : tie.After-thread-at
+  state = c .before .before .before .before .before .before .before .before .before
+
+  abbrev runs : running (asked state) (thread state) ≡ c .is-running .result
+  runs = sym (c .is-running .ensures)
+
+-- whether its core is locked
+module _ (c : tie.After-test) where
+  abbrev run : tie.After-is-running
+  run = c .before .before .before .before .before .before
+
+  abbrev locked : has (asked (state run) .lock .locked) (coreIn (asked (state run)) (thread (state run))) ≡ c .test .result
+  locked = ap (has (asked (state run) .lock .locked)) (sym (c .before .thread-at2 .ensures)) ∙ sym (c .test .ensures)
+
+returns : tie.Need-returns
+returns c = sym (reason-finished (asked (c .before)) (thread (c .before)) (its (c .before) ∙ c .if1 .taken))
+
+returns-2 : tie.Need-returns-2
+returns-2 c =
+    let at = c .before .before in
+    let s = asked at in
+    let t = thread at in
+    sym (reason-waiting s t (λ e. c .before .if1 .left (sym (its at) ∙ e)) (its at ∙ c .if2 .taken))
+
+returns-3 : tie.Need-returns-3
+returns-3 c =
+    let at = run (c .before) in
+    let s = asked (state at) in
+    let t = thread (state at) in
+    let ready = at .before .before .before .before .before .before .before in
+    sym (reason-locked s t (λ e. ready .before .if1 .left (sym (its (state at)) ∙ e)) (λ e. ready .if2 .left (sym (its (state at)) ∙ e))
+    (runs at ∙ c .before .before .before .before .before .before .if3 .taken) (locked (c .before) ∙ c .if4 .taken))
+
+returns-4 : tie.Need-returns-4
+returns-4 c =
+    let at = run (c .before) in
+    let s = asked (state at) in
+    let t = thread (state at) in
+    let ready = at .before .before .before .before .before .before .before in
+    sym (reason-displaced s t (λ e. ready .before .if1 .left (sym (its (state at)) ∙ e)) (λ e. ready .if2 .left (sym (its (state at)) ∙ e))
+    (runs at ∙ c .before .before .before .before .before .before .if3 .taken) (locked (c .before) ∙ c .if4 .left))
+
+returns-5 : tie.Need-returns-5
+returns-5 c =
+    let at = c .before .before in
+    let s = asked (state at) in
+    let t = thread (state at) in
+    let ready = at .before .before .before .before .before .before .before in
+    c .ready-reason .ensures
+    ∙ sym (reason-ready s t (λ e. ready .before .if1 .left (sym (its (state at)) ∙ e)) (λ e. ready .if2 .left (sym (its (state at)) ∙ e))
+    (runs at ∙ c .before .if3 .left))
+
+pub reason-in-spec : {M : Type 1} → statement M
+reason-in-spec =
+    tie.close
+    (tie.spec
+    thread-at-requires
+    returns
+    returns-2
+    is-running-requires
+    thread-at-requires-2
+    test-requires
+    returns-3
+    returns-4
+    ready-reason-requires
+    returns-5)

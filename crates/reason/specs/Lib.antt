@@ -1,0 +1,6 @@
+pub mod Reasons
+pub mod Why
+pub mod WhyLaws
+pub mod FirstHeld
+pub mod Exactly
+pub mod Ahead
