@@ -1,17 +1,27 @@
--- The fields of a line, each put where the one before it ends, are the line: with all their places they take 58 of the 64 bytes.
-use Prim.Native.Nat.{ℕ, _+_, _≤_}
+-- The fields of a line, each put where the one before it ends, are the line: an event's takes 58 of its 64 bytes with all the places, a thread's all of its 80.
+use Prim.Native.Nat.{ℕ, _+_, _≤_, _<_}
 use mathlib.Core.Path.{_≡_, sym, _∙_}
-use mathlib.Core.List.{List}
-use lib.ListN.{length, set}
+use mathlib.Core.List.{List, [], _∷_, _++_}
+use lib.ListN.{length, set, take}
 use lib.Seq.{length-take-le}
 use native.Mathlib.Omega.{arith}
 use native.Mathlib.Nat.{zero-add}
-use Rattle.lines.specs.Chars.{lineFeed, places8, places16, places32, hexPlaces, room}
+use Rattle.lines.specs.Chars.{lineFeed, places8, places16, places32, hexPlaces, room, mostWords, threadRoom}
 use Rattle.lines.specs.Put.{Put}
 use Rattle.lines.specs.PutLaws.{put-byte, put-put, put-length}
 use Rattle.lines.specs.Listing.{decimalOf, hexOf, holderOf, lineOf}
+use Rattle.lines.specs.ThreadLine.{whichOf, threadLineOf}
 use Rattle.lines.specs.Shown.{Shown}
 use Rattle.lines.specs.declared.Line.{Line}
+
+-- a line feed at the end, where there is a place for it
+ended : {bs o s : List ℕ} {most r : ℕ} → Put bs most o s 0 r → most < length o → Shown (bs ++ (lineFeed ∷ [])) o (set s r lineFeed) (r + 1)
+ended {s = s} {r = r} q n =
+    let l = put-length q (omega arith) in
+    let e = put-put q (put-byte s r lineFeed (omega (arith, q .bound))) (omega arith) in
+    let k = put-length e (omega arith) in
+    let h : r + 1 ≤ length (set s r lineFeed) = omega (arith, e .bound) in
+    record { count = e .count ∙ zero-add _; text = e .text; fits = h; part = sym (length-take-le _ _ h) }
 
 pub joined : (line : Line) {o s1 s2 s3 s4 s5 s6 s7 s8 : List ℕ} {r1 r2 r3 r4 r5 r6 r7 r8 : ℕ} →
     length o ≡ room →
@@ -25,7 +35,7 @@ pub joined : (line : Line) {o s1 s2 s3 s4 s5 s6 s7 s8 : List ℕ} {r1 r2 r3 r4 r
     Put (holderOf (line .holder)) places8 s7 s8 r7 r8 →
     Shown (lineOf line) o (set s8 r8 lineFeed) (r8 + 1)
 unfolding lineOf
-joined line {s8 = s8} {r8 = r8} n p1 p2 p3 p4 p5 p6 p7 p8 =
+joined line n p1 p2 p3 p4 p5 p6 p7 p8 =
     let q2 = put-put p1 p2 (omega arith) in
     let q3 = put-put q2 p3 (omega arith) in
     let q4 = put-put q3 p4 (omega arith) in
@@ -33,8 +43,18 @@ joined line {s8 = s8} {r8 = r8} n p1 p2 p3 p4 p5 p6 p7 p8 =
     let q6 = put-put q5 p6 (omega arith) in
     let q7 = put-put q6 p7 (omega arith) in
     let q8 = put-put q7 p8 (omega arith) in
-    let l8 = put-length q8 (omega arith) in
-    let q9 = put-put q8 (put-byte s8 r8 lineFeed (omega (arith, q8 .bound))) (omega arith) in
-    let l9 = put-length q9 (omega arith) in
-    let h : r8 + 1 ≤ length (set s8 r8 lineFeed) = omega (arith, q9 .bound) in
-    record { count = q9 .count ∙ zero-add _; text = q9 .text; fits = h; part = sym (length-take-le _ _ h) }
+    ended q8 (omega arith)
+
+pub joined-thread : (position thread : ℕ) (words : List ℕ) (which : ℕ) {o s1 s2 s3 s4 : List ℕ} {r1 r2 r3 r4 : ℕ} →
+    length o ≡ threadRoom →
+    Put (decimalOf places32 position) (places32 + 1) o s1 0 r1 →
+    Put (decimalOf places8 thread) (places8 + 1) s1 s2 r1 r2 →
+    Put (take mostWords words) mostWords s2 s3 r2 r3 →
+    Put (whichOf which) places8 s3 s4 r3 r4 →
+    Shown (threadLineOf position thread words which) o (set s4 r4 lineFeed) (r4 + 1)
+unfolding threadLineOf
+joined-thread position thread words which n p1 p2 p3 p4 =
+    let q2 = put-put p1 p2 (omega arith) in
+    let q3 = put-put q2 p3 (omega arith) in
+    let q4 = put-put q3 p4 (omega arith) in
+    ended q4 (omega arith)

@@ -47,3 +47,10 @@ none = 255
 -- the bytes that a line is lent
 abbrev pub room : ℕ
 room = 64
+
+-- the most bytes of words in a thread's line, and the bytes that such a line is lent
+abbrev pub mostWords : ℕ
+mostWords = 61
+
+abbrev pub threadRoom : ℕ
+threadRoom = 80

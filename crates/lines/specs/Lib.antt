@@ -7,3 +7,4 @@ pub mod PutLaws
 pub mod Listing
 pub mod ListingLaws
 pub mod Shown
+pub mod ThreadLine

@@ -1,4 +1,4 @@
-// Document 01, "The listing": the text of the line that one event prints.
+// Document 01, "The listing": the text of the line that one event prints; and of the line that one thread prints.
 ghost use mathlib.Core.Path.{_≡_};
 ghost use Prim.Native.Nat.{_+_, _<_, _≤_};
 ghost use lib.ListN.{length};
@@ -7,6 +7,11 @@ ghost use Rattle.lines.specs.Number.{glyphOf, number};
 ghost use Rattle.lines.specs.Put.{Put};
 ghost use Rattle.lines.specs.Listing.{decimalOf, hexOf, holderOf, lineOf};
 ghost use Rattle.lines.specs.Shown.{Shown};
+
+mod thread;
+
+pub use thread::THREAD_ROOM;
+pub use thread::thread_line;
 
 const SPACE: u8 = b' ';
 

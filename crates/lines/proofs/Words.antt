@@ -1,0 +1,34 @@
+-- Words put byte by byte: before the first, one byte more, and all of those that have places.
+use Prim.Native.Nat.{ℕ, suc, _+_, _≤_, _<_}
+use mathlib.Core.Path.{_≡_, refl, sym, ap, _∙_}
+use mathlib.Core.List.{List, [], _∷_, _++_}
+use lib.ListN.{length, getD, set, take, length-take}
+use lib.Seq.{take-suc, take-take, take-length}
+use native.Mathlib.Omega.{arith}
+use native.Mathlib.Nat.{add-zero}
+use Rattle.lines.specs.Chars.{mostWords}
+use Rattle.lines.specs.Put.{Put}
+use Rattle.lines.specs.PutLaws.{put-none, put-byte, put-put, put-as}
+
+-- the first i bytes of the words are put
+abbrev pub Putting : List ℕ → List ℕ → ℕ → List ℕ → ℕ → Type 0
+Putting o words at after i = Put (take i words) i o after at (at + i)
+
+pub words-none : (o words : List ℕ) (at : ℕ) → Putting o words at o 0
+words-none o words at = rw add-zero (put-none o at)
+
+pub words-more : (o words : List ℕ) (at : ℕ) (after : List ℕ) (i : ℕ) → Putting o words at after i → i < length words → at + i < length after → at + suc i ≤ length o
+    → Putting o words at (set after (at + i) (getD words i 0)) (i + 1)
+words-more o words at after i p l m n =
+    let q = put-put p (put-byte after (at + i) (getD words i 0) m) (omega arith) in
+    let e : i + 1 ≡ suc i = omega arith in
+    let k : at + i + 1 ≡ at + suc i = omega arith in
+    rw (e, take-suc words i 0 l, ← k) (put-as q refl (omega arith))
+
+pub words-all : (o words : List ℕ) (at : ℕ) (after : List ℕ) (i n : ℕ) → Putting o words at after i → i ≡ n → n ≡ length (take mostWords words)
+    → Put (take mostWords words) mostWords o after at (at + n)
+words-all o words at after i n p e f =
+    let m : i ≤ mostWords = (let h : length (take mostWords words) ≤ mostWords = simp length-take (omega arith) in omega arith) in
+    let same : take i words ≡ take mostWords words =
+        sym (take-take i mostWords words m) ∙ ap (λ (k : ℕ). take k (take mostWords words)) (e ∙ f) ∙ take-length (take mostWords words) in
+    rw (sym e) (put-as p same m)
