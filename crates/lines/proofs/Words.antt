@@ -30,5 +30,5 @@ pub words-all : (o words : List ℕ) (at : ℕ) (after : List ℕ) (i n : ℕ) �
 words-all o words at after i n p e f =
     let m : i ≤ mostWords = (let h : length (take mostWords words) ≤ mostWords = simp length-take (omega arith) in omega arith) in
     let same : take i words ≡ take mostWords words =
-        sym (take-take i mostWords words m) ∙ ap (λ (k : ℕ). take k (take mostWords words)) (e ∙ f) ∙ take-length (take mostWords words) in
+    sym (take-take i mostWords words m) ∙ ap (λ (k : ℕ). take k (take mostWords words)) (e ∙ f) ∙ take-length (take mostWords words) in
     rw (sym e) (put-as p same m)

@@ -1,8 +1,7 @@
 -- What list_event makes is what its definition says, where the event's record is found and where it is refused.
 use Prim.Native.Nat.{ℕ}
-use mathlib.Core.Path.{_≡_, refl, sym, ap, ap₂, _∙_}
+use mathlib.Core.Path.{_≡_, sym, ap, ap₂, _∙_}
 use mathlib.Core.List.{List}
-use native.Mathlib.Omega.{arith}
 use lib.ListN.{length}
 use Rattle.wire.specs.Answer.{recordOf}
 use Rattle.wire.specs.Event.{kindOf, nextEvent}
@@ -15,8 +14,7 @@ use Rattle.system.specs.declared.System.{System}
 use Rattle.system.specs.declared.events.Reply.{Reply}
 use Rattle.system.specs.Events.{applyOf}
 use Rattle.lines.specs.Listing.{lineOf}
-use Rattle.lines.specs.PutLaws.{place-none}
-use Rattle.lines.specs.Shown.{Shown}
+use Rattle.lines.specs.Shown.{Shown, shown-nothing}
 use Rattle.lines.specs.declared.Line.{Line}
 use Rattle.listed.specs.Listed.{lineWith, lineFor, textOf, listedOf}
 use Rattle.listed.specs.ListedLaws.{text-event, listed-event, text-refused, listed-refused}
@@ -59,9 +57,4 @@ module _ (s : System) (position : ℕ) (bytes : List ℕ) where
     denied-listed e = ap (denied s) e ∙ sym (listed-refused s position bytes refusal f)
 
     pub denied-shown : (before : List ℕ) → Shown (textOf s position bytes) before before 0
-    denied-shown before = rw (text-refused s position bytes refusal f) record {
-      count = refl;
-      text = sym (place-none before 0);
-      fits = omega arith;
-      part = refl;
-    }
+    denied-shown before = rw (text-refused s position bytes refusal f) (shown-nothing before)

@@ -1,4 +1,4 @@
--- The listing looks for as many events as there are bytes, and more would list the same.
+-- As many events are looked for as there are bytes, and more would print the same.
 use Prim.Native.Nat.{ℕ, zero, suc, _+_, _≤_}
 use mathlib.Core.Path.{_≡_, refl, sym, ap}
 use mathlib.Core.List.{List, [], _++_}
@@ -13,34 +13,35 @@ use Rattle.wire.specs.declared.event.NextEvent.{NextEvent}
 use Rattle.wire.specs.declared.event.NextEvent.the-variants as found
 use Rattle.system.specs.declared.System.{System}
 use Rattle.system.specs.Events.{applyOf}
-use Rattle.lines.specs.Listing.{lineOf}
-use Rattle.listed.specs.Listed.{lineFor}
 use Rattle.listed.specs.ListedLaws.{event-within}
-use Rattle.listed.specs.ListingOf.{eventsSeen, eventsFrom}
+use Rattle.listed.specs.Output.{Print, eventsSeen, eventsFrom}
 
--- nothing is listed where no byte is left
-pub events-end : (n : ℕ) (s : System) (position at : ℕ) (bytes : List ℕ) → length bytes ≡ 0 → eventsFrom n s position at bytes ≡ []
+-- nothing is printed where no byte is left
+pub events-end : (print : Print) (n : ℕ) (s : System) (position at : ℕ) (bytes : List ℕ) → length bytes ≡ 0
+    → eventsFrom print n s position at bytes ≡ []
 unfolding eventsFrom
-events-end zero s position at bytes e = refl
-events-end (suc n) s position at bytes e = rw (eq-eqb (length bytes) 0 e)
+events-end print zero s position at bytes e = refl
+events-end print (suc n) s position at bytes e = rw (eq-eqb (length bytes) 0 e)
 
--- m turns list what n turns do, where both are enough
-abbrev Enough : ℕ → ℕ → Type 0
-Enough n m = (s : System) (position at : ℕ) (bytes : List ℕ) → length bytes ≤ n → length bytes ≤ m
-    → eventsFrom n s position at bytes ≡ eventsFrom m s position at bytes
+-- m turns print what n turns do, where both are enough
+abbrev Enough : Print → ℕ → ℕ → Type 0
+Enough print n m = (s : System) (position at : ℕ) (bytes : List ℕ) → length bytes ≤ n → length bytes ≤ m
+    → eventsFrom print n s position at bytes ≡ eventsFrom print m s position at bytes
 
-module _ (n m : ℕ) (rest : Enough n m) (s : System) (position at : ℕ) (bytes : List ℕ) (a : length bytes ≤ suc n) (b : length bytes ≤ suc m) where
+module _ (print : Print) (n m : ℕ) (rest : Enough print n m) (s : System) (position at : ℕ) (bytes : List ℕ)
+    (a : length bytes ≤ suc n) (b : length bytes ≤ suc m) where
   seen-enough : (x : NextEvent) → nextEvent bytes ≡ x
-      → eventsSeen (eventsFrom n) s position at bytes x ≡ eventsSeen (eventsFrom m) s position at bytes x
+      → eventsSeen print (eventsFrom print n) s position at bytes x ≡ eventsSeen print (eventsFrom print m) s position at bytes x
   seen-enough (found.Event e next) f =
       let w : Within bytes 0 next = event-within bytes e next f in
-      ap (λ (l : List ℕ). lineOf (lineFor position e (applyOf s e)) ++ l)
+      ap (λ (l : List ℕ). print position e (applyOf s e) ++ l)
       (rest (applyOf s e .system) (position + 1) (at + next) (drop next bytes) (simp length-drop (omega arith)) (simp length-drop (omega arith)))
   seen-enough (found.Refused refusal) f = refl
 
-pub events-enough : (n m : ℕ) → Enough n m
+pub events-enough : (print : Print) (n m : ℕ) → Enough print n m
 unfolding eventsFrom
-events-enough zero m s position at bytes a b = sym (events-end m s position at bytes (omega arith))
-events-enough (suc n) zero s position at bytes a b = events-end (suc n) s position at bytes (omega arith)
-events-enough (suc n) (suc m) s position at bytes a b =
-    ap (λ (l : List ℕ). cond (eqb (length bytes) 0) [] l) (seen-enough n m (events-enough n m) s position at bytes a b (nextEvent bytes) refl)
+events-enough print zero m s position at bytes a b = sym (events-end print m s position at bytes (omega arith))
+events-enough print (suc n) zero s position at bytes a b = events-end print (suc n) s position at bytes (omega arith)
+events-enough print (suc n) (suc m) s position at bytes a b =
+    ap (λ (l : List ℕ). cond (eqb (length bytes) 0) [] l)
+    (seen-enough print n m (events-enough print n m) s position at bytes a b (nextEvent bytes) refl)

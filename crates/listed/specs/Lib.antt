@@ -4,8 +4,11 @@ pub mod Listed
 pub mod ListedLaws
 pub mod Text
 pub mod Messages
+pub mod Output
 pub mod ListingOf
+pub mod Reasons
 pub mod Steps
+pub mod ReasonsSteps
 pub mod Enough
 pub mod Last
 pub mod WorkedInput

@@ -1,67 +1,13 @@
--- Document 01, "The listing": the whole output of an input.
-use Prim.Native.Nat.{ℕ, zero, suc, _+_}
-use mathlib.Core.List.{List, [], _++_}
-use mathlib.Core.Bool.{cond}
-use lib.Dec.{eqb, ltb}
-use lib.ListN.{length, take, drop}
-use Rattle.wire.specs.Event.{nextEvent}
-use Rattle.wire.specs.Refusal.{numberOf}
-use Rattle.wire.specs.declared.event.Event.{Event}
-use Rattle.wire.specs.declared.event.NextEvent.{NextEvent}
-use Rattle.wire.specs.declared.event.NextEvent.the-variants as found
-use Rattle.system.specs.declared.System.{System}
-use Rattle.system.specs.declared.events.Reply.{Reply}
-use Rattle.system.specs.Events.{applyOf}
-use Rattle.reading.specs.Reading.{defaultBudget}
-use Rattle.reading.specs.SystemRead.{systemRead}
-use Rattle.reading.specs.declared.SystemRead.{SystemRead}
+-- Document 01, "The listing": a line for each event.
+use Prim.Native.Nat.{ℕ}
+use mathlib.Core.List.{List}
 use Rattle.lines.specs.Listing.{lineOf}
-use Rattle.listed.specs.Start.{eventsStart}
 use Rattle.listed.specs.Listed.{lineFor}
-use Rattle.listed.specs.Messages.{inputTooLong, tableRefused, stopped}
+use Rattle.listed.specs.Output.{Print, outputOf}
 
--- ---- the events
+-- an event's line
+abbrev pub eventPrinted : Print
+eventPrinted position e r = lineOf (lineFor position e r)
 
--- what lists the events after one: their system, the position and the place of the next, and the bytes left
-abbrev pub Rest : Type 0
-Rest = System → ℕ → ℕ → List ℕ → List ℕ
-
--- an event's line, then what follows on the system that it leaves
-abbrev pub eventThen : Rest → ℕ → ℕ → List ℕ → Event → Reply → List ℕ
-eventThen rest position at bytes e r = lineOf (lineFor position e r) ++ rest (r .system) (position + 1) at bytes
-
--- "stopped R at P" where the record is refused
-abbrev pub eventsSeen : Rest → System → ℕ → ℕ → List ℕ → NextEvent → List ℕ
-eventsSeen rest s position at bytes (found.Event e next) =
-    eventThen rest position (at + next) (drop next bytes) e (applyOf s e)
-eventsSeen rest s position at bytes (found.Refused refusal) = stopped (numberOf refusal) at
-
--- the events of the bytes left at a place, at most n of them
-unfoldable pub eventsFrom : ℕ → Rest
-eventsFrom zero s position at bytes = []
-eventsFrom (suc n) s position at bytes =
-    cond (eqb (length bytes) 0) [] (eventsSeen (eventsFrom n) s position at bytes (nextEvent bytes))
-
--- ---- the whole
-
--- "above 32,768 bytes"
-abbrev pub mostBytes : ℕ
-mostBytes = 32768
-
--- "position from 1"
-abbrev pub firstPosition : ℕ
-firstPosition = 1
-
--- the events from the place where they start, on the system that the table gave; or "table refused R at P"
-unfoldable pub listingRead : List ℕ → ℕ → SystemRead → List ℕ
-listingRead s start r =
-    cond (eqb (r .number) 0)
-    (eventsFrom (length s) (r .system) firstPosition start (drop start s))
-    (tableRefused (r .number) (r .place))
-
--- the table, then the events
-abbrev pub listingSplit : List ℕ → ℕ → List ℕ
-listingSplit s start = listingRead s start (systemRead defaultBudget (take start s))
-
-unfoldable pub listingOf : List ℕ → List ℕ
-listingOf s = cond (ltb mostBytes (length s)) inputTooLong (listingSplit s (eventsStart s))
+abbrev pub listingOf : List ℕ → List ℕ
+listingOf s = outputOf eventPrinted s

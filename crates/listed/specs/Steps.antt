@@ -1,4 +1,4 @@
--- The events' part of the listing is list_event, time after time.
+-- The events' part of an output is the program's loop: a turn, time after time; the listing's turn is list_event.
 use Prim.Native.Nat.{ℕ, zero, suc, _+_}
 use mathlib.Core.Path.{_≡_, refl, ap}
 use mathlib.Core.List.{List, [], _++_}
@@ -17,11 +17,16 @@ use Rattle.system.specs.declared.System.{System}
 use Rattle.system.specs.Events.{applyOf}
 use Rattle.reading.specs.Known.{some-number}
 use Rattle.lines.specs.Listing.{lineOf}
-use Rattle.listed.specs.Listed.{lineFor, textSeen, listedSeen, textOf, listedOf}
+use Rattle.listed.specs.Listed.{lineFor, listedSeen, textOf, listedOf}
 use Rattle.listed.specs.ListedLaws.{text-event}
-use Rattle.listed.specs.ListingOf.{Rest, eventsSeen, eventsFrom}
+use Rattle.listed.specs.Output.{Print, Rest, eventsSeen, eventsFrom}
+use Rattle.listed.specs.ListingOf.{eventPrinted}
 use Rattle.listed.specs.Messages.{stopped}
 use Rattle.listed.specs.declared.Listed.{Listed}
+
+-- the text of a turn: of its system, its position and the bytes left
+abbrev pub TurnText : Type 0
+TurnText = System → ℕ → List ℕ → List ℕ
 
 -- what the program prints of one turn: the text, and then what follows; or "stopped R at P"
 abbrev pub stepThen : Rest → ℕ → ℕ → List ℕ → List ℕ → Listed → List ℕ
@@ -29,40 +34,46 @@ stepThen rest position at bytes text l =
     cond (eqb (l .number) 0) (text ++ rest (l .system) (position + 1) (at + l .size) (drop (l .size) bytes)) (stopped (l .number) at)
 
 -- the program's loop, in at most n turns
-unfoldable pub stepsFrom : ℕ → Rest
-stepsFrom zero s position at bytes = []
-stepsFrom (suc n) s position at bytes =
-    cond (eqb (length bytes) 0) [] (stepThen (stepsFrom n) position at bytes (textOf s position bytes) (listedOf s position bytes))
+unfoldable pub stepsFrom : TurnText → ℕ → Rest
+stepsFrom text zero s position at bytes = []
+stepsFrom text (suc n) s position at bytes =
+    cond (eqb (length bytes) 0) [] (stepThen (stepsFrom text n) position at bytes (text s position bytes) (listedOf s position bytes))
 
 -- ---- the two are the same
 
-Same : Rest → Rest → Type 0
+-- the text of a turn that finds an event is what is printed of the event
+abbrev pub Prints : Print → TurnText → Type 0
+Prints print text = (s : System) (position : ℕ) (bytes : List ℕ) (e : Event) (next : ℕ) → nextEvent bytes ≡ found.Event e next
+    → text s position bytes ≡ print position e (applyOf s e)
+
+abbrev Same : Rest → Rest → Type 0
 Same f g = (s : System) (position at : ℕ) (bytes : List ℕ) → f s position at bytes ≡ g s position at bytes
 
 denied : (refusal : Refusal) → numberOf refusal ≡ 0 → ⊥
 denied refusal e = omega (arith, some-number refusal)
 
-module _ (f g : Rest) (same : Same f g) (s : System) (position at : ℕ) (bytes : List ℕ) where
-  seen-same : (x : NextEvent) → eventsSeen f s position at bytes x ≡ stepThen g position at bytes (textSeen s position x) (listedSeen s position x)
-  unfolding Same
-  seen-same (found.Event e next) =
-      ap (λ (l : List ℕ). lineOf (lineFor position e (applyOf s e)) ++ l) (same (applyOf s e .system) (position + 1) (at + next) (drop next bytes))
-  seen-same (found.Refused refusal) = rw (ne-eqb (numberOf refusal) 0 (denied refusal))
+module _ (print : Print) (text : TurnText) (prints : Prints print text) where
+  module _ (f g : Rest) (same : Same f g) (s : System) (position at : ℕ) (bytes : List ℕ) where
+    seen-same : (x : NextEvent) → nextEvent bytes ≡ x
+        → eventsSeen print f s position at bytes x ≡ stepThen g position at bytes (text s position bytes) (listedSeen s position x)
+    seen-same (found.Event e next) p =
+        rw (prints s position bytes e next p, same (applyOf s e .system) (position + 1) (at + next) (drop next bytes))
+    seen-same (found.Refused refusal) p = rw (ne-eqb (numberOf refusal) 0 (denied refusal))
 
-steps-same : (n : ℕ) → Same (eventsFrom n) (stepsFrom n)
-unfolding Same eventsFrom stepsFrom textOf listedOf
-steps-same zero s position at bytes = refl
-steps-same (suc n) s position at bytes =
-    ap (λ (l : List ℕ). cond (eqb (length bytes) 0) [] l) (seen-same (eventsFrom n) (stepsFrom n) (steps-same n) s position at bytes (nextEvent bytes))
+  pub steps-same : (n : ℕ) → Same (eventsFrom print n) (stepsFrom text n)
+  unfolding eventsFrom stepsFrom listedOf
+  steps-same zero s position at bytes = refl
+  steps-same (suc n) s position at bytes =
+      ap (λ (l : List ℕ). cond (eqb (length bytes) 0) [] l)
+      (seen-same (eventsFrom print n) (stepsFrom text n) (steps-same n) s position at bytes (nextEvent bytes) refl)
 
--- each turn is listedOf, and its text is the line of the event's answer
+-- the listing: each turn is listedOf, and its text is the line of the event's answer
 pub record Stepped (n : ℕ) (s : System) (position at : ℕ) (bytes : List ℕ) : Type 0 where
-  pub turns : eventsFrom n s position at bytes ≡ stepsFrom n s position at bytes
+  pub turns : eventsFrom eventPrinted n s position at bytes ≡ stepsFrom textOf n s position at bytes
   pub line : (e : Event) (next : ℕ) → nextEvent bytes ≡ found.Event e next → textOf s position bytes ≡ lineOf (lineFor position e (applyOf s e))
 
 pub stepped : (n : ℕ) (s : System) (position at : ℕ) (bytes : List ℕ) → Stepped n s position at bytes
-unfolding Same
 stepped n s position at bytes = record {
-  turns = steps-same n s position at bytes;
+  turns = steps-same eventPrinted textOf text-event n s position at bytes;
   line = text-event s position bytes;
 }

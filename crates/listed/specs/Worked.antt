@@ -28,7 +28,8 @@ use Rattle.reading.specs.Ending.{ending}
 use Rattle.lines.specs.Number.{number}
 use Rattle.lines.specs.Listing.{decimalOf, hexOf, holderOf, lineOf}
 use Rattle.listed.specs.Start.{splitAt, startFrom}
-use Rattle.listed.specs.ListingOf.{eventsFrom, listingRead, listingOf}
+use Rattle.listed.specs.Output.{eventsFrom, outputRead, outputOf}
+use Rattle.listed.specs.ListingOf.{listingOf}
 use Rattle.listed.specs.Last.{lastFrom, lastOf}
 use Rattle.listed.specs.WorkedInput.{document01, firstOrder, secondOrder}
 use Rattle.listed.specs.WorkedRest.{coreOne, atRest}
@@ -61,7 +62,7 @@ unfolding bit has put withCore withoutCore withinWidth every some pickWith pickB
     isRunning finishedIn allFinished readied owedBy sumOf holderBudget stoppedAt stateOk statesOk countOk countsOk
     wellFormed releasedBy releaseStep leaveStep wakeStep serveStep trafficStep stepOf checked
     gangFits threadFits coresTaken gangTaken threadTaken turnOf readOn ending
-    number decimalOf hexOf holderOf lineOf splitAt startFrom eventsFrom listingRead listingOf lastFrom
+    number decimalOf hexOf holderOf lineOf splitAt startFrom eventsFrom outputRead outputOf lastFrom
 worked =
     let first : lastOf firstOrder ≡ atRest = refl in
     let second : lastOf secondOrder ≡ atRest = refl in

@@ -1,12 +1,16 @@
-// Document 01, "The listing": where the events of an input start, and what one event prints.
+// Document 01, "The listing": where the events of an input start, and what one event prints; and what one thread prints after it.
 ghost use mathlib.Core.Path.{_≡_};
 ghost use Prim.Native.Nat.{_≤_};
 ghost use lib.ListN.{length};
 ghost use Rattle.lines.specs.Shown.{Shown};
 ghost use Rattle.listed.specs.Start.{splitAt, eventsStart};
 ghost use Rattle.listed.specs.Listed.{lineWith, textOf, listedOf};
+
+mod reasons;
+
 use lines::Line;
 use lines::ROOM;
+pub use reasons::list_reason;
 use system::System;
 use wire::answer::AnswerRecord;
 use wire::event::NextEvent;

@@ -1,12 +1,12 @@
--- `listing::list` is safe: the events start within the bytes.
+-- `print_input` is safe: the events start within the bytes.
 use Prim.Native.Nat.{_≤_}
 use native.Mathlib.Omega.{arith}
 use denote.Ref.{now}
 use lib.ListN.{length, length-take}
 use Rattle.listed.specs.StartLaws.{start-inside}
 use borrow.Author.Needs.{needs}
-use Rattle.listing.proofs.list.Statement.{statement}
-use Rattle.listing.proofs.list.Tie as tie
+use Rattle.recording.proofs.print_input.Statement.{statement}
+use Rattle.recording.proofs.print_input.Tie as tie
 
 events-start-requires : tie.Need-events-start-requires
 events-start-requires c κs = tt
@@ -32,15 +32,15 @@ print-refusal-requires c κs = tt
 returns : tie.Need-returns
 returns c = search needs
 
-list-events-requires : tie.Need-list-events-requires
-list-events-requires c κs =
+print-events-requires : tie.Need-print-events-requires
+print-events-requires c κs =
     (within-bytes (c .before .before .before .before), c .before .before .before .before .before .before .pre)
 
 returns-2 : tie.Need-returns-2
 returns-2 c = search needs
 
-pub list-spec : {M : Type 1} → statement M
-list-spec =
+pub print-input-spec : {M : Type 1} → statement M
+print-input-spec =
     tie.close
     (tie.spec
     events-start-requires
@@ -50,5 +50,5 @@ list-spec =
     write-all-requires
     print-refusal-requires
     returns
-    list-events-requires
+    print-events-requires
     returns-2)

@@ -1,22 +1,22 @@
--- `listing::list_events` is safe and ends: each turn takes a whole record of the bytes left, so the position is at most the place and one.
+-- `print_events` is safe and ends: each turn takes a whole record of the bytes left, so the position is at most the place and one.
 use Prim.Native.Nat.{_+_, _-_, _≤_}
 use mathlib.Core.Path.{_≡_, refl}
 use native.Mathlib.Omega.{arith}
 use denote.Ref.{now}
 use lib.ListN.{length}
 use Rattle.wire.specs.RecordLaws.{Within}
-use Rattle.listing.proofs.Turn.{turn}
+use Rattle.recording.proofs.Turn.{turn}
 use borrow.Author.Needs.{needs}
-use Rattle.listing.proofs.list_events.Statement.{statement}
-use Rattle.listing.proofs.list_events.Tie as tie
+use Rattle.recording.proofs.print_events.Statement.{statement}
+use Rattle.recording.proofs.print_events.Tie as tie
 
--- t11 holds the eight bytes of "stopped "
+-- t12 holds the eight bytes of "stopped "
 abbrev Inv-loop : tie.InvT-loop
-Inv-loop bytes start system₀ at₀ position₀ text₀ t11 system at position text =
-    (at ≤ length bytes) × (position ≤ at + 1) × (length t11 ≡ 8)
+Inv-loop shows bytes start system₀ at₀ position₀ text₀ t12 system at position text =
+    (at ≤ length bytes) × (position ≤ at + 1) × (length t12 ≡ 8)
 
 abbrev μ-loop : tie.MeasureT-loop
-μ-loop bytes start system₀ at₀ position₀ text₀ t11 system at position text = length bytes - at
+μ-loop shows bytes start system₀ at₀ position₀ text₀ t12 system at position text = length bytes - at
 
 loop-holds : tie.Need-loop-holds Inv-loop μ-loop
 loop-holds c = (c .before .pre .0, omega arith, refl)
@@ -46,13 +46,13 @@ returns : tie.Need-returns Inv-loop μ-loop
 returns c = search needs
 
 array-share-prefix-text : tie.Need-array-share-prefix-text Inv-loop μ-loop
-array-share-prefix-text c = c .before .before .list-event .ensures .1 .fits
+array-share-prefix-text c = c .before .before .before .list-event .ensures .1 .fits
 
-slice-aggregate-write-all-2 : tie.Need-slice-aggregate-write-all-2 Inv-loop μ-loop
-slice-aggregate-write-all-2 c = c .before .before .before .list-event .ensures .1 .part
+slice-aggregate-print-event : tie.Need-slice-aggregate-print-event Inv-loop μ-loop
+slice-aggregate-print-event c = c .before .before .before .before .list-event .ensures .1 .part
 
-write-all-requires-2 : tie.Need-write-all-requires-2 Inv-loop μ-loop
-write-all-requires-2 c κs = tt
+print-event-requires : tie.Need-print-event-requires Inv-loop μ-loop
+print-event-requires c κs = tt
 
 -- the record that the event took
 module _ (c : tie.After-struct-known2 Inv-loop μ-loop) where
@@ -71,10 +71,10 @@ module _ (c : tie.After-struct-known2 Inv-loop μ-loop) where
       (listed .list-event .ensures .0) (shown .if1 .left) (loop .loop .inv .0)
 
 add-at : tie.Need-add-at Inv-loop μ-loop
-add-at c = omega (arith, took c .inside)
+add-at c = omega (arith, took c .inside, loop c .before .before .pre .1)
 
 add-position : tie.Need-add-position Inv-loop μ-loop
-add-position c = omega arith
+add-position c = omega (arith, loop c .loop .inv, loop c .before .before .pre .1)
 
 loop-less : tie.Need-loop-less Inv-loop μ-loop
 loop-less c = omega (arith, took c)
@@ -85,8 +85,8 @@ loop-again c = (took c .inside, omega (arith, took c .header), refl)
 returns-2 : tie.Need-returns-2 Inv-loop μ-loop
 returns-2 c = search needs
 
-pub list-events-spec : {M : Type 1} → statement M
-list-events-spec =
+pub print-events-spec : {M : Type 1} → statement M
+print-events-spec =
     tie.close
     (tie.spec
     Inv-loop
@@ -101,8 +101,8 @@ list-events-spec =
     print-refusal-requires
     returns
     array-share-prefix-text
-    slice-aggregate-write-all-2
-    write-all-requires-2
+    slice-aggregate-print-event
+    print-event-requires
     add-at
     add-position
     loop-less
