@@ -36,7 +36,7 @@ extern "C" {
 // Release numbers are 1 to this one.
 #define GJALVORN_LAST_NUMBER 4294967295u
 
-// No thread as an occupant, no gang as the holder, no core as the lowest owing one.
+// No thread as an occupant, no gang as the holder, no core as the lowest owing one, neither thread nor gang with a reason.
 #define GJALVORN_NONE 255
 
 // The bytes of an ANSWER record: length u16 (16), kind u16 (64), then refusal u8, value u8, number u32, owing cores u32 and locked
@@ -66,6 +66,19 @@ enum gjalvorn_state {
     GJALVORN_FINISHED = 0, // at first
     GJALVORN_READY = 1,
     GJALVORN_WAITING = 2
+};
+
+// Why a thread is running or is not: gjalvorn_why gives the first of these that holds. The last one is never given where events led to the
+// system.
+enum gjalvorn_reason {
+    GJALVORN_WHY_FINISHED = 1,
+    GJALVORN_WHY_WAITING = 2,
+    GJALVORN_WHY_RUNNING_LOCKED = 3,    // it is running on a locked core
+    GJALVORN_WHY_RUNNING_DISPLACED = 4, // it is running, and its core is not locked
+    GJALVORN_WHY_CORE_OWES = 5,         // its core owes a reschedule
+    GJALVORN_WHY_THREAD_AHEAD = 6,      // another thread is its core's first ready thread
+    GJALVORN_WHY_GANG_HOLDS = 7,        // a gang of higher priority holds the lock
+    GJALVORN_WHY_NONE = 8               // none of these
 };
 
 // The refusal numbers, each given exactly when document 01 says; 0 says that nothing is refused. The order is 14; 1 for fewer than four
@@ -163,6 +176,13 @@ typedef struct gjalvorn_found {
     uint8_t refusal; // 0 where the question has a value
     uint32_t value;  // 0 where the question is refused
 } gjalvorn_found;
+
+// What the question why finds.
+typedef struct gjalvorn_reason_found {
+    uint8_t refusal; // 0 where a reason is given
+    uint8_t reason;  // 1 to 8; 0 where the question is refused
+    uint8_t which;   // the thread ahead for 6, the gang that holds the lock for 7, else 255; 0 where the question is refused
+} gjalvorn_reason_found;
 
 // What reading a table comes to.
 typedef struct gjalvorn_read {
@@ -282,6 +302,9 @@ gjalvorn_found gjalvorn_lowest_owing(gjalvorn_system system);
 
 // How many cores owe.
 gjalvorn_found gjalvorn_owing_count(gjalvorn_system system);
+
+// Why a thread is running or is not: the first reason of enum gjalvorn_reason that holds, and the thread or the gang that it names.
+gjalvorn_reason_found gjalvorn_why(gjalvorn_system system, uint8_t thread);
 
 #ifdef __cplusplus
 }

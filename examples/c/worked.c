@@ -124,6 +124,12 @@ static void ask_core(gjalvorn_system system, uint8_t core)
            gjalvorn_stopped(system, core).value);
 }
 
+static void ask_thread(gjalvorn_system system, uint8_t thread)
+{
+    gjalvorn_reason_found why = gjalvorn_why(system, thread);
+    printf("thread %u: reason %u, which %u\n", thread, why.reason, why.which);
+}
+
 // All the events in one batch, with room for every answer, and then the questions.
 static bool ask(gjalvorn_system system, const recording *rec)
 {
@@ -137,6 +143,8 @@ static bool ask(gjalvorn_system system, const recording *rec)
         ask_gang(batched.system, gang);
     for (uint8_t core = 0; core < system.table.cores; core++)
         ask_core(batched.system, core);
+    for (uint8_t thread = 0; thread < system.table.threads; thread++)
+        ask_thread(batched.system, thread);
     printf("owing: %" PRIu32 " cores, the lowest %" PRIu32 "\n", gjalvorn_owing_count(batched.system).value,
            gjalvorn_lowest_owing(batched.system).value);
     return true;

@@ -61,6 +61,10 @@ static void findings(void)
     SIZE("Found", gjalvorn_found);
     FIELD("Found", gjalvorn_found, refusal);
     FIELD("Found", gjalvorn_found, value);
+    SIZE("ReasonFound", gjalvorn_reason_found);
+    FIELD("ReasonFound", gjalvorn_reason_found, refusal);
+    FIELD("ReasonFound", gjalvorn_reason_found, reason);
+    FIELD("ReasonFound", gjalvorn_reason_found, which);
     SIZE("SystemRead", gjalvorn_read);
     FIELD("SystemRead", gjalvorn_read, system);
     FIELD("SystemRead", gjalvorn_read, number);

@@ -1,8 +1,8 @@
 //! Prints the size of every struct of the Rust bindings and the place of every field in it, in the order of layout.c.
 
 use gjalvorn::raw::{
-    AnswerRecord, Answered, Batched, EventValue, Found, Ledger, Lock, Outcome, System, SystemRead,
-    Table,
+    AnswerRecord, Answered, Batched, EventValue, Found, Ledger, Lock, Outcome, ReasonFound, System,
+    SystemRead, Table,
 };
 use std::mem::{size_of, MaybeUninit};
 use std::ptr::addr_of;
@@ -32,6 +32,7 @@ fn main() {
     layout!(Outcome: holder, blocked, answer);
     layout!(EventValue: kind, number, transactions);
     layout!(Found: refusal, value);
+    layout!(ReasonFound: refusal, reason, which);
     layout!(SystemRead: system, number, place);
     layout!(Batched: system, read, written, number);
 }

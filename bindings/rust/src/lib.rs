@@ -1,7 +1,7 @@
 //! The proved gang scheduler core, as a Rust type.
 //!
 //! A [`System`] is a table of cores, gangs and pinned threads under a gang
-//! lock. Seven events change it, eight questions ask about it. Nothing here
+//! lock. Seven events change it, and questions ask about it. Nothing here
 //! refuses or looks at a value: every one goes through to the proved library,
 //! which answers every input.
 
@@ -13,7 +13,8 @@ mod questions;
 pub mod raw;
 
 pub use event::{kind, Event};
-pub use raw::{AnswerRecord, EventValue, Found, Ledger, Lock, System, Table};
+pub use questions::reason;
+pub use raw::{AnswerRecord, EventValue, Found, Ledger, Lock, ReasonFound, System, Table};
 
 /// What reading a table gives: the system, the refusal's number and its place.
 pub type TableRead = raw::SystemRead;

@@ -129,6 +129,19 @@ pub struct Found {
     pub value: u32,
 }
 
+/// What the question why finds.
+#[repr(C)]
+#[derive(Clone, Copy, Debug, PartialEq, Eq)]
+pub struct ReasonFound {
+    /// 0, or the refusal 14 or 6.
+    pub refusal: u8,
+    /// The reason, 1 to 8; 0 where the question is refused.
+    pub reason: u8,
+    /// The thread ahead for 6, the gang that holds the lock for 7, else 255; 0
+    /// where the question is refused.
+    pub which: u8,
+}
+
 /// What reading a table comes to.
 #[repr(C)]
 #[derive(Clone, Copy, Debug, PartialEq, Eq)]
@@ -208,4 +221,5 @@ extern "C" {
     pub fn gjalvorn_job_number(system: System, gang: u8) -> Found;
     pub fn gjalvorn_lowest_owing(system: System) -> Found;
     pub fn gjalvorn_owing_count(system: System) -> Found;
+    pub fn gjalvorn_why(system: System, thread: u8) -> ReasonFound;
 }

@@ -11,11 +11,14 @@ use Rattle.system.specs.declared.events.Reply.{Reply}
 use Rattle.system.specs.declared.questions.Told.{Told}
 use Rattle.system.specs.Events.{refusedBy, checked, applyOf}
 use Rattle.system.specs.Questions.{findingRefusal, findingValue}
+use Rattle.reason.specs.declared.Explained.{Explained}
+use Rattle.reason.specs.Why.{explanationRefusal, explanationNumber, explanationWhich}
 use Rattle.ffi.specs.declared.events.Answered.{Answered}
 use Rattle.ffi.specs.declared.events.EventValue.{EventValue}
 use Rattle.ffi.specs.declared.events.Named.{Named}
 use Rattle.ffi.specs.declared.events.Named.the-variants as named
 use Rattle.ffi.specs.declared.questions.Found.{Found}
+use Rattle.ffi.specs.declared.questions.ReasonFound.{ReasonFound}
 
 -- the system after an event, beside its answer
 abbrev pub answeredBy : System → AnswerRecord → Answered
@@ -28,6 +31,14 @@ answeredOf r = answeredBy (r .system) (recordOf (r .answer) (r .system .lock .ow
 -- a question's refusal number and value
 abbrev pub foundIn : Told → Found
 foundIn t = record { refusal = findingRefusal (t .finding); value = findingValue (t .finding) }
+
+-- the refusal number of why a thread isn't running, the reason's number, and the thread or gang that it names
+abbrev pub reasonFound : Explained → ReasonFound
+reasonFound e = record {
+  refusal = explanationRefusal (e .explanation);
+  reason = explanationNumber (e .explanation);
+  which = explanationWhich (e .explanation);
+}
 
 -- the event that a kind names, in the order of the kinds
 unfoldable pub namedBy : EventValue → Named

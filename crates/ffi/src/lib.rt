@@ -18,6 +18,7 @@ pub use events::Answered;
 pub use events::EventValue;
 pub use lent::Outcome;
 pub use questions::Found;
+pub use questions::ReasonFound;
 
 // Reads a whole table into its fresh system.
 #[no_mangle]

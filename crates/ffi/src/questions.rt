@@ -1,7 +1,9 @@
-// The eight questions. A caller keeps the system that it asks about, so only what is found is given.
+// The eight questions, and why a thread isn't running. A caller keeps the system that it asks about, so only what is found is given.
 ghost use mathlib.Core.Path.{_≡_};
 ghost use Rattle.system.specs.Questions.{occupantFound, stoppedFound, numberFound, servedFound, skippedFound, jobFound, lowestFound, owingFound};
-ghost use Rattle.ffi.specs.Calls.{foundIn};
+ghost use Rattle.reason.specs.Why.{whyOf};
+ghost use Rattle.ffi.specs.Calls.{foundIn, reasonFound};
+use reason::Explained;
 use system::System;
 use system::Told;
 
@@ -84,4 +86,32 @@ pub extern "C" fn gjalvorn_owing_count(system: System) -> Found
     ensures { λ r. ⌜ r ≡ foundIn (owingFound system) ⌝ }
 {
     finding_of(system.owing_count())
+}
+
+// Why a thread isn't running: the refusal number, 0 where there is a reason; the reason's number; and the thread or gang that it names,
+// 255 where it names none. Where the question is refused the last two are 0.
+#[repr(C)]
+pub struct ReasonFound {
+    pub refusal: u8,
+    pub reason: u8,
+    pub which: u8,
+}
+
+fn reason_of(explained: Explained) -> ReasonFound
+    ensures { λ r. ⌜ r ≡ reasonFound explained ⌝ }
+{
+    let explanation = explained.explanation;
+    ReasonFound {
+        refusal: reason::refusal_in(explanation),
+        reason: reason::number_in(explanation),
+        which: reason::which_in(explanation),
+    }
+}
+
+// Why a thread isn't running: the first reason that holds.
+#[no_mangle]
+pub extern "C" fn gjalvorn_why(system: System, thread: u8) -> ReasonFound
+    ensures { λ r. ⌜ r ≡ reasonFound (whyOf system thread) ⌝ }
+{
+    reason_of(reason::why(system, thread))
 }

@@ -15,8 +15,9 @@ use crate::records;
 /// Of so many streams, one goes event by event and one in several batches.
 const STREAMS: usize = 12;
 
-/// One event in so many is followed by a question.
+/// One event in so many is followed by a question, and one in so many by why.
 const QUESTION_ONCE_IN: usize = 4;
+const WHY_ONCE_IN: usize = 4;
 
 pub struct Case<'a> {
     pub number: u64,
@@ -113,6 +114,11 @@ impl<'a> Case<'a> {
                 let number = self.random.byte_below(pair.model.cores);
                 let question = self.random.among(&Question::about(number));
                 pair.ask(question, self.seen)?;
+            }
+            // Release counts that a case has set change no reason.
+            if self.random.once_in(WHY_ONCE_IN) {
+                let thread = self.random.byte_below(pair.model.threads);
+                pair.why_reached(thread, self.seen)?;
             }
         }
         Ok(())

@@ -4,6 +4,20 @@
 use gjalvorn as proved;
 use gjalvorn_model as model;
 
+// The bindings' names for the reasons stand for the model's numbers.
+const _: () = {
+    use model::Reason;
+    use proved::reason;
+    assert!(reason::FINISHED == Reason::Finished.number());
+    assert!(reason::WAITING == Reason::Waiting.number());
+    assert!(reason::RUNNING_LOCKED == Reason::RunningLocked.number());
+    assert!(reason::RUNNING_DISPLACED == Reason::RunningDisplaced.number());
+    assert!(reason::CORE_OWES == Reason::CoreOwes.number());
+    assert!(reason::THREAD_AHEAD == Reason::ThreadAhead(0).number());
+    assert!(reason::GANG_HOLDS == Reason::GangHolds(0).number());
+    assert!(reason::NONE == Reason::NoneOfThese.number());
+};
+
 pub fn to_proved(s: &model::System) -> proved::System {
     proved::System {
         table: proved::Table {
@@ -86,6 +100,14 @@ pub fn found(reply: model::Reply) -> proved::Found {
     proved::Found {
         refusal: reply.refusal,
         value: reply.value,
+    }
+}
+
+pub fn reason_found(reply: model::WhyReply) -> proved::ReasonFound {
+    proved::ReasonFound {
+        refusal: reply.refusal,
+        reason: reply.reason,
+        which: reply.which,
     }
 }
 

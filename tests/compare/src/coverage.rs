@@ -1,13 +1,18 @@
 //! What a run has met. A run that never met one of its targets has shown
 //! nothing about it, and fails.
 
-use gjalvorn_model::{Answer, Event, System, ANSWER_SIZE, MAX_COUNT, NONE, READY};
+use gjalvorn_model::{
+    Answer, Event, Refusal, System, WhyReply, ANSWER_SIZE, MAX_COUNT, NONE, READY,
+};
 
 use crate::generate::systems::{damageable, DAMAGEABLE};
 use crate::records::PAYLOAD_AT;
 
 /// The refusal numbers, 1 to 14.
 const REFUSALS: usize = 14;
+
+/// The reasons, 1 to 8; only damaged systems give the last.
+const REASONS: usize = 8;
 
 /// Declares the targets, with the words that they are printed in.
 macro_rules! targets {
@@ -38,6 +43,8 @@ targets! {
     OneBelowBudget: "cores not stopped with one less than the budget",
     AboveMost: "sums above the largest kept count",
     UnknownKind: "events of an unknown kind",
+    WhyNotWellFormed: "threads not told why, of systems that are not well formed",
+    WhyNotInTable: "threads not told why, that are not in the table",
     ThreeServices: "cores served three times before rest",
     LockAtRest: "states at rest with the lock held",
     FreeAtRest: "states at rest with nothing ready",
@@ -46,6 +53,7 @@ targets! {
 pub struct Coverage {
     targets: Vec<u64>,
     refusals: [u64; REFUSALS + 1],
+    reasons: [u64; REASONS + 1],
     /// For each thing damaged, systems that are refused and that are not.
     damaged: [[u64; 2]; DAMAGEABLE],
 }
@@ -55,6 +63,7 @@ impl Coverage {
         Coverage {
             targets: vec![0; WORDS.len()],
             refusals: [0; REFUSALS + 1],
+            reasons: [0; REASONS + 1],
             damaged: [[0; 2]; DAMAGEABLE],
         }
     }
@@ -77,6 +86,15 @@ impl Coverage {
         for answer in written.chunks_exact(ANSWER_SIZE) {
             self.refusal(answer[PAYLOAD_AT]);
         }
+    }
+
+    /// What both gave to the question why.
+    pub fn why(&mut self, reply: WhyReply) {
+        let refused = |refusal: Refusal| reply.refusal == refusal.number();
+        self.hit_if(Target::WhyNotWellFormed, refused(Refusal::NotWellFormed));
+        self.hit_if(Target::WhyNotInTable, refused(Refusal::OutOfRange));
+        self.refusal(reply.refusal);
+        self.reasons[usize::from(reply.reason)] += 1;
     }
 
     /// A damaged system, and whether it is still well formed.
@@ -171,6 +189,9 @@ impl Coverage {
         let mut counts: Vec<_> = targets.zip(self.targets.iter().copied()).collect();
         for (number, &count) in self.refusals.iter().enumerate().skip(1) {
             counts.push((format!("refusals {number}"), count));
+        }
+        for (number, &count) in self.reasons.iter().enumerate().skip(1) {
+            counts.push((format!("threads told reason {number}"), count));
         }
         for ((name, may_keep), &[refused, kept]) in damageable().zip(&self.damaged) {
             counts.push((format!("systems refused for {name}"), refused));

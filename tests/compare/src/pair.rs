@@ -6,7 +6,7 @@ use std::fmt::Arguments;
 use gjalvorn as proved;
 use gjalvorn_model as model;
 use model::{Event, Refusal};
-use proved::{AnswerRecord, EventValue};
+use proved::{reason, AnswerRecord, EventValue};
 
 use crate::by_value;
 use crate::compare::{holds, same, same_bytes, same_system, Outcome};
@@ -181,6 +181,28 @@ impl Pair {
         same(format_args!("{question:?}"), convert::found(model), proved)?;
         seen.refusal(model.refusal);
         Ok(())
+    }
+
+    /// Why a thread is running or is not, which changes nothing; gives the
+    /// reason that both tell.
+    pub fn why(&self, thread: u8, seen: &mut Coverage) -> Outcome<u8> {
+        let reply = self.model.ask_why(thread);
+        let found = self.proved.why(thread);
+        let what = format!("why, of thread {thread}");
+        same(&what, convert::reason_found(reply), found)?;
+        same_system(&what, &self.model, &self.proved)?;
+        seen.why(reply);
+        Ok(found.reason)
+    }
+
+    /// Why, of a thread of a reached system, where one of the seven reasons
+    /// holds.
+    pub fn why_reached(&self, thread: u8, seen: &mut Coverage) -> Outcome {
+        let reason = self.why(thread, seen)?;
+        holds(
+            format_args!("thread {thread} of a reached system is told none of the reasons"),
+            reason != reason::NONE,
+        )
     }
 
     pub fn well_formed(&self) -> Outcome<bool> {

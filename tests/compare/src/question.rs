@@ -1,4 +1,4 @@
-//! The eight questions, as values.
+//! Document 01's eight questions, as values. Each finds a number.
 
 use gjalvorn as proved;
 use gjalvorn_model as model;

@@ -1,7 +1,7 @@
 //! Wrong variants of everything that is compared. Each must be noticed, or
 //! agreement would say nothing.
 
-use gjalvorn::{AnswerRecord, Batched, Found};
+use gjalvorn::{AnswerRecord, Batched, Found, ReasonFound};
 use gjalvorn_model::{Event, ANSWER_SIZE, MAX_PRIORITY};
 
 use crate::compare::{same, same_bytes, same_system, Outcome};
@@ -27,6 +27,7 @@ pub fn run() -> (usize, Vec<String>) {
     values(&mut wrong);
     outputs(&mut wrong);
     calls(&mut wrong);
+    whys(&mut wrong);
     by_value(&mut wrong);
     (count, missed)
 }
@@ -75,6 +76,11 @@ fn values(wrong: Judge) {
         |answer| answer.locked ^= 1,
     ];
     let founds: [fn(&mut Found); 2] = [|found| found.refusal ^= 1, |found| found.value ^= 1];
+    let reasons: [fn(&mut ReasonFound); 3] = [
+        |found| found.refusal ^= 1,
+        |found| found.reason ^= 1,
+        |found| found.which ^= 1,
+    ];
     let batches: [fn(&mut Batched); 3] = [
         |done| done.read ^= 1,
         |done| done.written ^= 1,
@@ -85,6 +91,7 @@ fn values(wrong: Judge) {
     let answer = proved.serve(0);
     each("an answer", answer, &answers, wrong);
     each("a finding", pair.proved.occupant(0), &founds, wrong);
+    each("a reason", pair.proved.why(0), &reasons, wrong);
     each("a batch", proved.batch(&[], &mut []), &batches, wrong);
 }
 
@@ -143,6 +150,21 @@ fn calls(wrong: Judge) {
     wrong("a batch".into(), batched.map(drop));
     pair.model.cores = 0;
     wrong("well formed".into(), pair.well_formed().map(drop));
+}
+
+/// Why, of a pair whose halves tell something else, or tell the same and are not
+/// the same system; and what no reached system tells.
+fn whys(wrong: Judge) {
+    let mut seen = Coverage::new();
+    let seen = &mut seen;
+    let mut told = some_pair();
+    told.model.owing = 0;
+    wrong("why".into(), told.why(0, seen).map(drop));
+    let mut changed = some_pair();
+    changed.model.count[0] += 1;
+    wrong("a changing why".into(), changed.why(0, seen).map(drop));
+    let unreached = Pair::of(&told.model);
+    wrong("no reason".into(), unreached.why_reached(0, seen));
 }
 
 /// An event whose system by value is another, or whose answer is.

@@ -84,6 +84,13 @@ void expect_answer(const gjalvorn_answer *seen, const gjalvorn_answer *wanted)
     expect("answer.locked", seen->locked, wanted->locked);
 }
 
+void expect_reason_found(gjalvorn_reason_found seen, gjalvorn_reason_found wanted)
+{
+    expect("reason_found.refusal", seen.refusal, wanted.refusal);
+    expect("reason_found.reason", seen.reason, wanted.reason);
+    expect("reason_found.which", seen.which, wanted.which);
+}
+
 gjalvorn_answer refused_answer(const gjalvorn_system *system, uint8_t refusal)
 {
     gjalvorn_answer answer = {.refusal = refusal, .owing = system->lock.owing, .locked = system->lock.locked};

@@ -16,6 +16,7 @@ void expect_ledger(const gjalvorn_ledger *seen, const gjalvorn_ledger *wanted);
 void expect_lock(const gjalvorn_lock *seen, const gjalvorn_lock *wanted);
 void expect_system(const gjalvorn_system *seen, const gjalvorn_system *wanted);
 void expect_answer(const gjalvorn_answer *seen, const gjalvorn_answer *wanted);
+void expect_reason_found(gjalvorn_reason_found seen, gjalvorn_reason_found wanted);
 
 // The answer of an event that this system refuses.
 gjalvorn_answer refused_answer(const gjalvorn_system *system, uint8_t refusal);

@@ -27,6 +27,7 @@ static const theme THEMES[] = {
     {"looked at: every byte of a field, and none of the padding", bytes_looked_at},
     {"given: gjalvorn_read", reading_results},
     {"given: gjalvorn_answer", answers},
+    {"given: gjalvorn_reason_found", reasons},
     {"taken: gjalvorn_event", events_by_kind},
     {"lent: the parts of a system, and given: gjalvorn_outcome", events_in_place},
     {"given: gjalvorn_batched, and the lent output", batch_results},

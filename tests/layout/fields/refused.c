@@ -40,6 +40,7 @@ static void expect_questions_refused(gjalvorn_system system)
     expect_unfound("job number", gjalvorn_job_number(system, 0));
     expect_unfound("lowest owing", gjalvorn_lowest_owing(system));
     expect_unfound("owing count", gjalvorn_owing_count(system));
+    expect_reason_found(gjalvorn_why(system, 0), (gjalvorn_reason_found){.refusal = GJALVORN_NOT_WELL_FORMED});
 }
 
 static void expect_batch_refused(gjalvorn_system system)

@@ -24,6 +24,7 @@ void bytes_looked_at(void);
 // What the calls take and give beside a system.
 void reading_results(void);
 void answers(void);
+void reasons(void);
 void events_by_kind(void);
 void events_in_place(void);
 void batch_results(void);

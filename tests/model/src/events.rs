@@ -298,7 +298,7 @@ impl System {
     }
 
     /// A thread's place.
-    fn thread_place(&self, thread: u8) -> Result<usize, Refusal> {
+    pub(crate) fn thread_place(&self, thread: u8) -> Result<usize, Refusal> {
         in_table(thread, self.threads, MAX_THREADS)
     }
 }

@@ -1,4 +1,5 @@
-//! The eight questions about a system.
+//! The questions about a system: document 01's eight, and why a thread is
+//! running or is not.
 
 use crate::system::{lowest_bit, System, NONE};
 use crate::Refusal;
@@ -12,7 +13,19 @@ pub struct Reply {
     pub value: u32,
 }
 
-/// The eight questions, for any field values: 14 first, then 6.
+/// What the question why gives.
+#[derive(Clone, Copy, Debug, PartialEq, Eq)]
+pub struct WhyReply {
+    /// 0, or the refusal 14 or 6.
+    pub refusal: u8,
+    /// The reason's number, 1 to 8; 0 where the question is refused.
+    pub reason: u8,
+    /// The thread ahead for reason 6, the holder for reason 7, 255 for the
+    /// others; 0 where the question is refused.
+    pub which: u8,
+}
+
+/// The questions, for any field values: 14 first, then 6.
 impl System {
     /// A core's occupant, or 255.
     pub fn ask_occupant(&self, core: u8) -> Reply {
@@ -54,19 +67,39 @@ impl System {
         self.ask(|s| Ok(s.owing.count_ones()))
     }
 
-    /// Asks a well-formed system (14) and gives 0 where the question refuses.
+    /// Why a thread is running or is not: the first reason that holds.
+    pub fn ask_why(&self, thread: u8) -> WhyReply {
+        match self.found(|s| s.thread_place(thread).map(|_| s.reason(thread))) {
+            Ok(reason) => WhyReply {
+                refusal: 0,
+                reason: reason.number(),
+                which: reason.which(),
+            },
+            Err(refusal) => WhyReply {
+                refusal: refusal.number(),
+                reason: 0,
+                which: 0,
+            },
+        }
+    }
+
+    /// Asks for a number, which is 0 where the question is refused.
     fn ask(&self, question: impl Fn(&Self) -> Result<u32, Refusal>) -> Reply {
-        let answer = if self.well_formed() {
-            question(self)
-        } else {
-            Err(Refusal::NotWellFormed)
-        };
-        match answer {
+        match self.found(question) {
             Ok(value) => Reply { refusal: 0, value },
             Err(refusal) => Reply {
                 refusal: refusal.number(),
                 value: 0,
             },
+        }
+    }
+
+    /// What a question finds in a well-formed system (14).
+    fn found<T>(&self, question: impl Fn(&Self) -> Result<T, Refusal>) -> Result<T, Refusal> {
+        if self.well_formed() {
+            question(self)
+        } else {
+            Err(Refusal::NotWellFormed)
         }
     }
 }

@@ -203,6 +203,11 @@ impl System {
         place(&self.thread_gang, thread).unwrap_or(NONE)
     }
 
+    /// The core to which a thread is pinned; none for no thread.
+    pub(crate) fn core_of(&self, thread: u8) -> u8 {
+        place(&self.thread_core, thread).unwrap_or(NONE)
+    }
+
     /// "A thread is running when it is its core's occupant and is ready."
     pub(crate) fn is_running(&self, thread: u8) -> bool {
         place(&self.thread_state, thread) == Some(READY)

@@ -1,5 +1,6 @@
 //! From one reached system: each event by its own call, by apply and by its
-//! kind, each question, and kinds that are no event's, about one number.
+//! kind, each question, and kinds that are no event's, about one number; from
+//! some, why of every thread.
 
 use gjalvorn::EventValue;
 use gjalvorn_model::kind;
@@ -16,6 +17,9 @@ use crate::random::Random;
 const LEADING: (usize, usize) = (0, 30);
 const FULL_ONCE_IN: usize = 50;
 const EMPTY_ONCE_IN: usize = 50;
+
+/// One system in so many is asked why of every thread.
+const EVERY_WHY_ONCE_IN: usize = 3;
 
 /// TRAFFIC's transactions.
 const TRANSACTIONS: [u32; 5] = [0, 1, 100, 1_000_000, 1_000_001];
@@ -53,12 +57,24 @@ pub fn run(case: &mut Case) -> Outcome {
     for question in Question::about(number) {
         pair.ask(question, case.seen)?;
     }
+    whys(case, &pair, number)?;
     let value = EventValue {
         kind: unknown(&mut case.random),
         number,
         transactions,
     };
     pair.clone().apply_unknown(value, case.seen)
+}
+
+/// Why, of a number that need not be a thread's, and of every thread.
+fn whys(case: &mut Case, pair: &Pair, number: u8) -> Outcome {
+    pair.why_reached(number, case.seen)?;
+    if case.random.once_in(EVERY_WHY_ONCE_IN) {
+        for thread in 0..pair.model.threads {
+            pair.why_reached(thread, case.seen)?;
+        }
+    }
+    Ok(())
 }
 
 /// The system that is asked: any, a full one or the empty one.

@@ -64,6 +64,7 @@ fn every_call(case: &mut Case, pair: &Pair) -> Outcome {
     for question in Question::about(number) {
         pair.ask(question, case.seen)?;
     }
+    pair.why(number, case.seen)?;
     let value = EventValue {
         kind: kind::TICK + 1,
         number,

@@ -1,4 +1,4 @@
-//! What holds over whole histories: counts, releases, the lock.
+//! What holds over whole histories: counts, releases, the lock, the reasons.
 
 use crate::support::*;
 use gjalvorn_model::{read_table, Answer, Event, System, NONE};
@@ -117,6 +117,30 @@ fn every_reached_state_keeps_the_lock_in_order() {
         });
     }
     assert!(overlaps > 0, "some gangs overlap");
+}
+
+/// "Given exactly when it is true and no earlier one is", and an eighth never.
+#[test]
+fn the_reason_given_is_the_first_that_holds_and_one_does() {
+    let mut met = [0u32; 7];
+    for seed in 400..430 {
+        watch(seed, 100, |_, event, _, s| {
+            for t in 0..s.threads {
+                let reply = s.ask_why(t);
+                let first = holding(s, t).iter().position(|&holds| holds);
+                let first = first.unwrap_or_else(|| panic!("no reason for {t} after {event:?}"));
+                assert_eq!((reply.refusal, usize::from(reply.reason)), (0, first + 1));
+                let which = match reply.reason {
+                    6 => first_ready(s, s.thread_core[usize::from(t)]).unwrap(),
+                    7 => s.holder,
+                    _ => NONE,
+                };
+                assert_eq!(reply.which, which);
+                met[first] += 1;
+            }
+        });
+    }
+    assert!(met.iter().all(|&count| count > 100), "{met:?}");
 }
 
 #[test]

@@ -1,4 +1,4 @@
-//! The eight questions.
+//! Document 01's eight questions.
 
 use crate::support::*;
 use gjalvorn_model::{Reply, System};

@@ -1,7 +1,7 @@
 //! Demand 3: services of owing cores end, and end in one state.
 
 use crate::support::*;
-use gjalvorn_model::{read_table, System, NONE};
+use gjalvorn_model::{read_table, Reason, System, NONE};
 
 /// The state of "Three services": cores 0, 1, 2 owe; core 0 is locked for a
 /// finished gang of priority 30; cores 1 and 2 have ready threads of priority
@@ -141,6 +141,9 @@ fn any_order_ends_within_three_services_in_one_state() {
             serve_all(&mut highest, |cores| cores[cores.len() - 1]);
             assert_eq!(highest, rest);
             assert!(rest.well_formed());
+            // No thread is displaced, and none is told that its core owes.
+            let told = reasons(&rest);
+            assert!(told.iter().all(|&n| matches!(n, 1..=3 | 6 | 7)), "{told:?}");
             // A service of a core that does not owe may make blocked cores owe
             // (when it was the only locked one), but rests in the same state.
             for core in 0..rest.cores {
@@ -158,6 +161,8 @@ fn any_order_ends_within_three_services_in_one_state() {
 #[test]
 fn every_order_of_up_to_three_cores() {
     fn walk(s: &System, services: [u32; 3], rest: &System) {
+        let none = Reason::NoneOfThese.number();
+        assert!(!reasons(s).contains(&none), "a thread with no reason");
         if s.owing == 0 {
             assert_eq!(s, rest);
         }

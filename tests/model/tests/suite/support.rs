@@ -336,6 +336,29 @@ pub fn first_ready(s: &System, c: u8) -> Option<u8> {
     ready.first().copied()
 }
 
+/// Document 02's seven reasons, each by itself and written anew from the
+/// fields: which of them hold of a thread, in their order.
+pub fn holding(s: &System, t: u8) -> [bool; 7] {
+    let state = s.thread_state[usize::from(t)];
+    let core = s.thread_core[usize::from(t)];
+    let priority = |thread: u8| s.priority[usize::from(s.thread_gang[usize::from(thread)])];
+    let locked = s.locked >> core & 1 == 1;
+    [
+        state == FINISHED,
+        state == WAITING,
+        running(s, t) && locked,
+        running(s, t) && !locked,
+        s.owing >> core & 1 == 1,
+        first_ready(s, core).map_or(false, |first| first != t),
+        s.holder != NONE && s.priority[usize::from(s.holder)] > priority(t),
+    ]
+}
+
+/// The reason that each thread is given.
+pub fn reasons(s: &System) -> Vec<u8> {
+    (0..s.threads).map(|t| s.ask_why(t).reason).collect()
+}
+
 /// Whether all of a gang's threads are finished.
 pub fn idle(s: &System, gang: u8) -> bool {
     (0..usize::from(s.threads)).all(|t| s.thread_gang[t] != gang || s.thread_state[t] == FINISHED)

@@ -1,7 +1,9 @@
 //! Any bytes, any place and any field values get an answer.
 
 use crate::support::*;
-use gjalvorn_model::{batch, listing, payload, read_table, record as ask, Stream, System};
+use gjalvorn_model::{
+    batch, listing, payload, read_table, record as ask, why, Reason, Stream, System,
+};
 
 /// Bytes that often look like records.
 fn wild_bytes(r: &mut Random) -> Vec<u8> {
@@ -77,6 +79,7 @@ fn any_bytes_and_places() {
         assert!(read.system.well_formed());
         assert_eq!(read.number == 0, read.system.cores > 0);
         listing(&bytes);
+        why(&bytes);
         let mut s = small();
         let mut out = vec![0; r.below(100) as usize];
         let got = batch(&mut s, &bytes, &mut out);
@@ -84,6 +87,36 @@ fn any_bytes_and_places() {
         assert!(got.read <= bytes.len() && got.written <= out.len());
         assert!(s.well_formed());
     }
+}
+
+/// Systems that are well formed give a reason for each thread of the table, the
+/// eighth too where no events lead to them; all else is refused.
+#[test]
+fn any_field_values_and_threads() {
+    let mut r = Random::new(9);
+    let none = Reason::NoneOfThese.number();
+    let mut met = [0u32; 9];
+    for _ in 0..2_000 {
+        let s = wild_system(&mut r);
+        for thread in (0..20).chain([127, 128, 255]) {
+            let told = s.ask_why(thread);
+            let refusal = match (s.well_formed(), thread < s.threads) {
+                (false, _) => 14,
+                (true, false) => 6,
+                (true, true) => 0,
+            };
+            assert_eq!(told.refusal, refusal);
+            if refusal == 0 {
+                let first = holding(&s, thread).iter().position(|&holds| holds);
+                let reason = first.map_or(none, |at| at as u8 + 1);
+                assert_eq!(told.reason, reason);
+            } else {
+                assert_eq!((told.reason, told.which), (0, 0));
+            }
+            met[usize::from(told.reason)] += 1;
+        }
+    }
+    assert!(met.iter().all(|&count| count > 0), "{met:?}");
 }
 
 #[test]
