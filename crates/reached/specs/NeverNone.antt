@@ -2,7 +2,7 @@
 use Prim.Native.Nat.{ℕ, _<_}
 use mathlib.Core.Bool.{Bool, true, false}
 use mathlib.Core.Path.{_≡_, refl, sym, ap, _∙_}
-use native.Mathlib.Decide.{ℕ-discrete, decLt}
+use native.Mathlib.Decide.{decLt}
 use native.Mathlib.Omega.{arith}
 use Rattle.coreset.specs.Set.{has}
 use Rattle.coreset.specs.Laws.{has-empty}
@@ -17,6 +17,7 @@ use Rattle.reason.specs.declared.Reason.the-variants as reason
 use Rattle.reason.specs.Reasons.{Past7}
 use Rattle.reason.specs.Why.{whyOf, explanationRefusal}
 use Rattle.reason.specs.WhyLaws.{why-beyond}
+use Rattle.reason.specs.FirstHeld.{is-first}
 use Rattle.reason.specs.Exactly.{Gives, none-exactly}
 use Rattle.reason.specs.Ahead.{past-ready, has-first}
 use Rattle.reached.specs.Reached.{Reached}
@@ -31,13 +32,9 @@ module _ {s : System} (R : Reached s) (t : ℕ) (l : t < s .table .threads) (p :
   good : Good world (s .lock)
   good = reached-good R
 
-  -- no reason before the sixth holds, and so the thread is its core's first ready one
+  -- the sixth reason does not hold, so the thread is its core's first ready one
   its-first : firstIn s (coreIn s t) ≡ t
-  its-first = go (ℕ-discrete (firstIn s (coreIn s t)) t)
-    where
-      go : Dec (firstIn s (coreIn s t) ≡ t) → firstIn s (coreIn s t) ≡ t
-      go (yes e) = e
-      go (no n) = absurd (p .0 .1 (firstIn s (coreIn s t)) (refl, n))
+  its-first = is-first s t (p .0)
 
   -- its core, which does not owe, is locked and runs it, is blocked behind a gang ahead of its own, or has no ready thread
   stands-nowhere : (x y : Bool) → has (s .lock .locked) (coreIn s t) ≡ x → has (s .lock .blocked) (coreIn s t) ≡ y

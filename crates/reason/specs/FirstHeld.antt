@@ -62,7 +62,7 @@ module _ (s : System) (t : ℕ) where
   is-ready : Past4 s t → reasonOf s t ≡ readyReason s t
   is-ready p = laws.reason-ready s t (p .0 .0 .0) (p .0 .0 .1) (not-running p)
 
-  is-first : Past6 s t → firstIn s (coreIn s t) ≡ t
+  pub is-first : Past6 s t → firstIn s (coreIn s t) ≡ t
   is-first p = go (ℕ-discrete (firstIn s (coreIn s t)) t)
     where
       go : Dec (firstIn s (coreIn s t) ≡ t) → firstIn s (coreIn s t) ≡ t

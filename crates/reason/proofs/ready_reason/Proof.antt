@@ -1,6 +1,6 @@
 -- `ready_reason` meets its contract: each return is one way through the tests.
 use Prim.Native.Nat.{ℕ}
-use mathlib.Core.Bool.{true, false}
+use mathlib.Core.Bool.{false}
 use mathlib.Core.Path.{_≡_, sym, ap, _∙_}
 use borrow.Author.Needs.{needs}
 use Rattle.coreset.specs.Set.{has}
@@ -45,6 +45,10 @@ module _ (c : tie.After-first-ready) where
   abbrev first : firstIn (asked tested) (coreIn (asked tested) (thread tested)) ≡ c .first-ready .result
   first = ap (firstIn (asked tested)) (sym (tested .before .thread-at .ensures)) ∙ sym (c .first-ready .ensures)
 
+  -- which is asked for where the core does not owe
+  abbrev idle : has (asked tested .lock .owing) (coreIn (asked tested) (thread tested)) ≡ false
+  idle = owes tested ∙ c .before .before .before .before .before .before .before .if1 .left
+
 -- whether the holder is ahead of the thread's gang
 module _ (c : tie.After-ahead) where
   abbrev found : tie.After-first-ready
@@ -61,34 +65,30 @@ returns-2 c =
     let at = c .before in
     let s = asked (tested at) in
     let t = thread (tested at) in
-    let idle = owes (tested at) ∙ at .before .before .before .before .before .before .before .if1 .left in
-    ap reason.ThreadAhead (sym (first at)) ∙ sym (ready-behind s t idle (λ e. c .if2 .taken (sym (first at) ∙ e)))
+    ap reason.ThreadAhead (sym (first at)) ∙ sym (ready-behind s t (idle at) (λ e. c .if2 .taken (sym (first at) ∙ e)))
 
 returns-3 : tie.Need-returns-3
 returns-3 c =
     let at = c .before .before .before in
     let s = asked (tested at) in
     let t = thread (tested at) in
-    let idle = owes (tested at) ∙ at .before .before .before .before .before .before .before .if1 .left in
-    sym (ready-first s t idle (first at ∙ c .before .before .if2 .left) ∙ outranked-free s t (c .if3 .taken))
+    sym (ready-first s t (idle at) (first at ∙ c .before .before .if2 .left) ∙ outranked-free s t (c .if3 .taken))
 
 returns-4 : tie.Need-returns-4
 returns-4 c =
     let at = found (c .before) in
     let s = asked (tested at) in
     let t = thread (tested at) in
-    let idle = owes (tested at) ∙ at .before .before .before .before .before .before .before .if1 .left in
     let else3 = c .before .before .before .before .before .before .before .before in
-    sym (ready-first s t idle (first at ∙ else3 .before .before .if2 .left) ∙ outranked-ahead s t (else3 .if3 .left) (outranks (c .before) ∙ c .if4 .taken))
+    sym (ready-first s t (idle at) (first at ∙ else3 .before .before .if2 .left) ∙ outranked-ahead s t (else3 .if3 .left) (outranks (c .before) ∙ c .if4 .taken))
 
 returns-5 : tie.Need-returns-5
 returns-5 c =
     let at = found (c .before) in
     let s = asked (tested at) in
     let t = thread (tested at) in
-    let idle = owes (tested at) ∙ at .before .before .before .before .before .before .before .if1 .left in
     let else3 = c .before .before .before .before .before .before .before .before in
-    sym (ready-first s t idle (first at ∙ else3 .before .before .if2 .left) ∙ outranked-not s t (else3 .if3 .left) (outranks (c .before) ∙ c .if4 .left))
+    sym (ready-first s t (idle at) (first at ∙ else3 .before .before .if2 .left) ∙ outranked-not s t (else3 .if3 .left) (outranks (c .before) ∙ c .if4 .left))
 
 pub ready-reason-spec : {M : Type 1} → statement M
 ready-reason-spec =

@@ -1,9 +1,9 @@
 -- `reason_in` meets its contract: each return is one way through the tests.
 use Prim.Native.Nat.{ℕ}
-use mathlib.Core.Bool.{true, false}
 use mathlib.Core.Path.{_≡_, sym, ap, _∙_}
 use borrow.Author.Needs.{needs}
 use Rattle.coreset.specs.Set.{has}
+use Rattle.table.specs.Numbers.{finished, waiting}
 use Rattle.system.specs.declared.System.{System}
 use Rattle.system.specs.System.{stateIn, coreIn, running}
 use Rattle.reason.specs.WhyLaws.{reason-finished, reason-waiting, reason-locked, reason-displaced, reason-ready}
@@ -36,13 +36,20 @@ module _ (c : tie.After-thread-at) where
   abbrev its : stateIn asked thread ≡ c .thread-at .result
   its = sym (c .thread-at .ensures)
 
--- whether it runs, where it is neither finished nor waiting
+-- whether it runs
 module _ (c : tie.After-is-running) where
   abbrev state : tie.After-thread-at
   state = c .before .before .before .before .before .before .before .before .before
 
   abbrev runs : running (asked state) (thread state) ≡ c .is-running .result
   runs = sym (c .is-running .ensures)
+
+  -- which is asked of a thread that is neither finished nor waiting
+  abbrev unfinished : stateIn (asked state) (thread state) ≡ finished → ⊥
+  unfinished e = c .before .before .before .before .before .before .before .before .if1 .left (sym (its state) ∙ e)
+
+  abbrev awake : stateIn (asked state) (thread state) ≡ waiting → ⊥
+  awake e = c .before .before .before .before .before .before .before .if2 .left (sym (its state) ∙ e)
 
 -- whether its core is locked
 module _ (c : tie.After-test) where
@@ -67,8 +74,7 @@ returns-3 c =
     let at = run (c .before) in
     let s = asked (state at) in
     let t = thread (state at) in
-    let ready = at .before .before .before .before .before .before .before in
-    sym (reason-locked s t (λ e. ready .before .if1 .left (sym (its (state at)) ∙ e)) (λ e. ready .if2 .left (sym (its (state at)) ∙ e))
+    sym (reason-locked s t (unfinished at) (awake at)
     (runs at ∙ c .before .before .before .before .before .before .if3 .taken) (locked (c .before) ∙ c .if4 .taken))
 
 returns-4 : tie.Need-returns-4
@@ -76,8 +82,7 @@ returns-4 c =
     let at = run (c .before) in
     let s = asked (state at) in
     let t = thread (state at) in
-    let ready = at .before .before .before .before .before .before .before in
-    sym (reason-displaced s t (λ e. ready .before .if1 .left (sym (its (state at)) ∙ e)) (λ e. ready .if2 .left (sym (its (state at)) ∙ e))
+    sym (reason-displaced s t (unfinished at) (awake at)
     (runs at ∙ c .before .before .before .before .before .before .if3 .taken) (locked (c .before) ∙ c .if4 .left))
 
 returns-5 : tie.Need-returns-5
@@ -85,9 +90,8 @@ returns-5 c =
     let at = c .before .before in
     let s = asked (state at) in
     let t = thread (state at) in
-    let ready = at .before .before .before .before .before .before .before in
     c .ready-reason .ensures
-    ∙ sym (reason-ready s t (λ e. ready .before .if1 .left (sym (its (state at)) ∙ e)) (λ e. ready .if2 .left (sym (its (state at)) ∙ e))
+    ∙ sym (reason-ready s t (unfinished at) (awake at)
     (runs at ∙ c .before .if3 .left))
 
 pub reason-in-spec : {M : Type 1} → statement M
