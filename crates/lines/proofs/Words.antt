@@ -1,7 +1,7 @@
 -- Words put byte by byte: before the first, one byte more, and all of those that have places.
 use Prim.Native.Nat.{ℕ, suc, _+_, _≤_, _<_}
 use mathlib.Core.Path.{_≡_, refl, sym, ap, _∙_}
-use mathlib.Core.List.{List, [], _∷_, _++_}
+use mathlib.Core.List.{List}
 use lib.ListN.{length, getD, set, take, length-take}
 use lib.Seq.{take-suc, take-take, take-length}
 use native.Mathlib.Omega.{arith}

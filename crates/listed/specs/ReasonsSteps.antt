@@ -2,11 +2,7 @@
 use Prim.Native.Nat.{ℕ}
 use mathlib.Core.Path.{_≡_, ap}
 use mathlib.Core.List.{List}
-use Rattle.wire.specs.Event.{nextEvent}
-use Rattle.wire.specs.declared.event.Event.{Event}
-use Rattle.wire.specs.declared.event.NextEvent.the-variants as found
 use Rattle.system.specs.declared.System.{System}
-use Rattle.system.specs.Events.{applyOf}
 use Rattle.listed.specs.declared.Listed.{Listed}
 use Rattle.listed.specs.Listed.{listedOf}
 use Rattle.listed.specs.ListedLaws.{listed-event}

@@ -1,5 +1,5 @@
 -- `why` meets its contract: 14, then 6, then the reason.
-use mathlib.Core.Path.{_≡_, sym, ap, _∙_}
+use mathlib.Core.Path.{sym, ap, _∙_}
 use borrow.Author.Needs.{needs}
 use Rattle.reason.specs.declared.Reason.{Reason}
 use Rattle.reason.specs.declared.Explanation.the-variants as explanation

@@ -1,9 +1,9 @@
 -- `put_words` meets its contract. The loop's invariant: the first i bytes of the words are put.
 use Prim.Native.Nat.{_-_, _≤_}
-use mathlib.Core.Path.{_≡_, refl, _∙_}
+use mathlib.Core.Path.{_≡_, refl}
 use native.Mathlib.Omega.{arith}
 use denote.Ref.{now}
-use lib.ListN.{length, take, length-take, length-set}
+use lib.ListN.{length, length-take, length-set}
 use borrow.Author.Needs.{needs}
 use Rattle.lines.specs.Chars.{mostWords}
 use Rattle.lines.proofs.Words.{Putting, words-none, words-more, words-all}

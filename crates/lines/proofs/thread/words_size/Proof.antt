@@ -1,10 +1,6 @@
 -- `words_size` meets its contract: the shorter of the words and the places for them.
-use mathlib.Core.Path.{_≡_}
 use native.Mathlib.Omega.{arith}
-use denote.Ref.{now}
 use lib.ListN.{length-take}
-use lib.Seq.{length-take-le}
-use Rattle.lines.specs.Chars.{mostWords}
 use Rattle.lines.proofs.thread.words_size.Statement.{statement}
 use Rattle.lines.proofs.thread.words_size.Tie as tie
 

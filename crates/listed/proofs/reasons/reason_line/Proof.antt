@@ -1,5 +1,4 @@
 -- `reason_line` meets its contract: each arm puts the words of its reason.
-use mathlib.Core.Path.{sym, _∙_}
 use borrow.Author.Needs.{needs}
 use Rattle.reason.specs.declared.Reason.the-variants as reason
 use Rattle.listed.proofs.Said.{said}
