@@ -1,12 +1,12 @@
 -- The bits of a number: what `put` does to each, what the code's masks come to, and that numbers with the same bits are equal. For any width.
 use Prim.Native.Nat.{ℕ, zero, suc, _+_, _-_, _*_, _/_, _%_, _^_, _≤_, _<_, min, max}
-use mathlib.Core.Path.{_≡_, refl, sym, ap, ap₂, _∙_, subst}
+use mathlib.Core.Path.{_≡_, sym, ap, ap₂, _∙_, subst}
 use native.Mathlib.Nat.{lt-of-lt-of-le, mul-assoc, mod-eq-of-lt, mod-mod, mod-lt, div-add-mod', div-one, pow-suc, mul-comm}
 use native.Mathlib.Numerals.{add-one, one-add}
 use native.Mathlib.Decide.{decLt}
 use native.Mathlib.Omega.{arith}
 use lib.Arith.{digits-mod, digits-div, digits-lt, lt-one}
-use lib.Pow.{pow-add, pow-mono, mod-pow-add, pow-lt, ones-split, ones-lt, split, pow-pos, high, low, shr-shr, field, mod-mod-pow, shr-lt}
+use lib.Pow.{pow-add, pow-mono, pow-lt, ones-split, ones-lt, split, pow-pos, high, low, shr-shr, field, mod-mod-pow, shr-lt}
 use lib.Bits.{or-shr, and-shr, bitOr, bitAnd, or-step, and-step, or-zero-r, or-block, and-block, and-mask}
 use Rattle.coreset.specs.Set.{bit, put}
 
@@ -65,11 +65,6 @@ bit-put-other m c d {v} h ne = go (decLt d c) (decLt c d)
 pub put-bit : (m c : ℕ) → put m c (bit m c) ≡ m
 unfolding put bit
 put-bit m c = ap (λ (x : ℕ). x * 2 ^ c + m % 2 ^ c) (div-add-mod' (m / 2 ^ c) 2) ∙ split m c
-
--- the lowest c + 1 bits are bit c above the lowest c
-pub low-bits : (m c : ℕ) → m % 2 ^ (c + 1) ≡ bit m c * 2 ^ c + m % 2 ^ c
-unfolding bit
-low-bits m c = ap (λ (x : ℕ). m % 2 ^ x) (omega arith) ∙ mod-pow-add m 1 c
 
 -- no bit above the width
 pub bit-beyond : (k m c : ℕ) → m < 2 ^ k → k ≤ c → bit m c ≡ 0

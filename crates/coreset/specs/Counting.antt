@@ -1,17 +1,16 @@
 -- How many cores are in a set, and which is the lowest: the laws that callers use, for any number of cores.
 use Prim.Native.Nat.{ℕ, zero, suc, _+_, _*_, _/_, _%_, _^_, _≤_, _<_}
 use mathlib.Core.Path.{_≡_, refl, sym, ap, _∙_, subst}
-use mathlib.Core.Bool.{Bool, true, false, cond}
+use mathlib.Core.Bool.{true, false}
 use native.Mathlib.Omega.{arith}
 use native.Mathlib.Nat.{mod-lt}
-use native.Mathlib.Decide.{ℕ-discrete}
-use lib.Count.{ones, ones-cat, ones-le, ones-step, trailingZeros, under}
+use lib.Count.{ones, ones-cat, ones-le, trailingZeros, under}
 use lib.Arith.{lt-one}
 use lib.Dec.{T, eqb}
 use lib.Pow.{pow-pos}
 use borrow.Author.Tests.{eq-eqb, ne-eqb}
 use Rattle.coreset.specs.Set.{bit, has, put, withCore, withoutCore, count, lowest}
-use Rattle.coreset.specs.Bits.{bit-lt, put-bit, low-bits, bit-half, bit-zero, half-lt}
+use Rattle.coreset.specs.Bits.{put-bit, bit-half, bit-zero, half-lt}
 use Rattle.coreset.specs.Laws.{bit-of, no-bit-of, has-empty, lt-pow}
 
 -- ---- the count
@@ -53,37 +52,19 @@ pub count-le : (k m : ℕ) → m < 2 ^ k → count m ≤ k
 unfolding count
 count-le k m h = ones-le k m h
 
--- the cores below c + 1 are those below c, and c
-pub count-low : (m c : ℕ) → count (m % 2 ^ (c + 1)) ≡ bit m c + count (m % 2 ^ c)
-unfolding count
-count-low m c =
-    ap ones (low-bits m c)
-    ∙ ones-cat c (bit m c) (m % 2 ^ c) (mod-lt m (pow-pos c))
-    ∙ ap (λ (x : ℕ). x + ones (m % 2 ^ c)) (ones-bit (bit m c) (bit-lt m c))
-
 -- ---- the lowest
 
 pub lowest-none : (k : ℕ) → lowest k 0 ≡ 255
 unfolding lowest
 lowest-none k = refl
 
--- c is in m and no core below it is: there are c zeros below the lowest one
-zeros-below : (k m c : ℕ) → c < k → bit m c ≡ 1 → ((d : ℕ) → d < c → bit m d ≡ 0) → trailingZeros k m ≡ c
-unfolding trailingZeros
-zeros-below zero m c l h n = absurd (omega arith)
-zeros-below (suc k) m zero l h n = ap (λ (x : ℕ). under x (trailingZeros k (m / 2))) (sym (bit-zero m) ∙ h)
-zeros-below (suc k) m (suc c) l h n =
-    ap (λ (x : ℕ). under x (trailingZeros k (m / 2))) (sym (bit-zero m) ∙ n 0 (omega arith))
-    ∙ ap suc (zeros-below k (m / 2) c (omega arith) (bit-half m c ∙ h) (λ d q. bit-half m d ∙ n (suc d) (omega arith)))
+pub lowest-some : (k m : ℕ) → (m ≡ 0 → ⊥) → lowest k m ≡ trailingZeros k m
+unfolding lowest
+lowest-some k m n = rw (ne-eqb m 0 n)
 
 -- a set with a member is not empty
 pub some-member : (m c : ℕ) → has m c ≡ true → m ≡ 0 → ⊥
 some-member m c h e = subst T (sym h ∙ ap (λ (x : ℕ). has x c) e ∙ has-empty c) tt
-
-pub lowest-is : (k m c : ℕ) → c < k → has m c ≡ true → ((d : ℕ) → d < c → has m d ≡ false) → lowest k m ≡ c
-unfolding lowest
-lowest-is k m c l h n =
-    rw (ne-eqb m 0 (some-member m c h)) (zeros-below k m c l (bit-of m c h) (λ d q. no-bit-of m d (n d q)))
 
 -- the lowest member of a set of k cores, and none of it below
 abbrev Found : ℕ → ℕ → Type 0
@@ -112,10 +93,10 @@ pub record IsLowest (m r : ℕ) : Type 0 where
   pub least : (d : ℕ) → d < r → has m d ≡ false
 
 pub lowest-found : (k m : ℕ) → m < 2 ^ k → (m ≡ 0 → ⊥) → IsLowest m (lowest k m)
-unfolding lowest has
+unfolding has
 lowest-found k m h n =
     let f = trailing-found k m h n in
-    rw (ne-eqb m 0 n) (record { inside = eq-eqb _ 1 (f .0); least = λ d q. ap (λ (x : ℕ). eqb x 1) (f .1 d q) })
+    rw (lowest-some k m n) (record { inside = eq-eqb _ 1 (f .0); least = λ d q. ap (λ (x : ℕ). eqb x 1) (f .1 d q) })
 
 -- a set that is not empty has a member
 pub some-core : (m : ℕ) → (m ≡ 0 → ⊥) → (d : ℕ) × (has m d ≡ true)

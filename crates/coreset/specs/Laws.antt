@@ -136,10 +136,6 @@ ext a b h =
 pub empty-ext : (m : ℕ) → ((d : ℕ) → has m d ≡ false) → m ≡ 0
 empty-ext m h = ext m 0 (λ d. h d ∙ sym (has-empty d))
 
--- k cores, none of them in the set
-pub empty-below : (k m : ℕ) → m < 2 ^ k → ((d : ℕ) → d < k → has m d ≡ false) → m ≡ 0
-empty-below k m l h = set-ext k m 0 l (pow-pos k) (λ d q. h d q ∙ sym (has-empty d))
-
 -- a set whose members are all below k is a set of k cores: nothing stands above them
 pub all-below : (k m : ℕ) → ((d : ℕ) → has m d ≡ true → d < k) → m < 2 ^ k
 unfolding has bit

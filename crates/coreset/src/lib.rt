@@ -33,23 +33,16 @@ pub fn clear(m: u32, c: u8) -> u32
 pub fn size(m: u32) -> u8
     ensures { λ r. ⌜ r ≡ count m ⌝ }
 {
-    let mut n: u8 = 0;
-    for c in 0..WIDTH {
-        if test(m, c) {
-            n += 1;
-        }
-    }
-    n
+    u32::count_ones(m) as u8
 }
 
 // The lowest core of the set, or NONE.
 pub fn first(m: u32) -> u8
     ensures { λ r. ⌜ r ≡ lowest 32 m ⌝ }
 {
-    for c in 0..WIDTH {
-        if test(m, c) {
-            return c;
-        }
+    if m == 0 {
+        NONE
+    } else {
+        u32::trailing_zeros(m) as u8
     }
-    NONE
 }
