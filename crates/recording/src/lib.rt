@@ -56,6 +56,7 @@ fn print_events(shows: Shows, system: System, bytes: &[u8], start: usize)
     let mut position: u32 = 1;
     let mut text = [0u8; ROOM];
     while at < bytes.len() {
+        // An event is taken by making its line, also where the line is not what is shown.
         let event = listed::list_event(system, position, &bytes[at..], &mut text);
         if event.number != 0 {
             io::write_all(STDOUT, b"stopped ");
