@@ -17,6 +17,7 @@ mod options;
 mod pair;
 mod question;
 mod random;
+mod recordings;
 mod records;
 mod report;
 mod self_check;
@@ -39,7 +40,10 @@ const MISUSED: u8 = 2;
 
 fn main() -> ExitCode {
     match Options::from_arguments() {
-        Ok(options) => run(&options),
+        Ok(options) => match options.recordings {
+            Some(count) => recordings::run(&options, count),
+            None => run(&options),
+        },
         Err(words) => {
             eprintln!("{words}");
             ExitCode::from(MISUSED)

@@ -7,11 +7,12 @@ use std::path::PathBuf;
 use crate::families::{FAMILIES, WHOLE};
 
 const USAGE: &str = "\
-compare [--seed N] [--cases N] [--only FAMILY N] [--to FOLDER]
+compare [--seed N] [--cases N] [--only FAMILY N] [--recordings N] [--to FOLDER]
   --seed    what all cases are drawn from
   --cases   how many, over all families; a run of few cases may miss a target and fail
   --only    one case of one family, as a difference names it
-  --to      where the cases that differ are written";
+  --recordings  compare nothing: write so many cases of each family, and what the programs are to print of each
+  --to      where the cases that differ, or the recordings, are written";
 
 const DEFAULT_SEED: u64 = 1;
 const DEFAULT_CASES: u64 = 210_000;
@@ -23,6 +24,8 @@ pub struct Options {
     cases: u64,
     /// One family's place and one case's number.
     pub only: Option<(usize, u64)>,
+    /// How many recordings of each family are written, and nothing compared.
+    pub recordings: Option<u64>,
     pub folder: PathBuf,
 }
 
@@ -33,6 +36,7 @@ impl Options {
             seed: DEFAULT_SEED,
             cases: DEFAULT_CASES,
             only: None,
+            recordings: None,
             folder: DEFAULT_FOLDER.into(),
         };
         let mut arguments = env::args().skip(1);
@@ -42,6 +46,7 @@ impl Options {
                 "--seed" => options.seed = number(&value()?)?,
                 "--cases" => options.cases = number(&value()?)?,
                 "--only" => options.only = Some((family(&value()?)?, number(&value()?)?)),
+                "--recordings" => options.recordings = Some(number(&value()?)?),
                 "--to" => options.folder = value()?.into(),
                 _ => return Err(USAGE.to_string()),
             }

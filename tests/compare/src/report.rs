@@ -57,7 +57,7 @@ pub fn difference(options: &Options, family: &str, case: &Case, found: &Differen
 }
 
 /// Writes a case's table and events into a file of its own.
-fn write(options: &Options, family: &str, case: &Case) -> io::Result<PathBuf> {
+pub fn write(options: &Options, family: &str, case: &Case) -> io::Result<PathBuf> {
     let name = format!("{family}-{}-{}.bin", options.seed, case.number);
     let path = options.folder.join(name);
     fs::create_dir_all(&options.folder)?;
