@@ -9,9 +9,10 @@ use Rattle.coreset.specs.Laws.{has-empty}
 use Rattle.ranges.specs.Logic.{clash, is-false}
 use Rattle.lock.specs.Good.{Stands, Good}
 use Rattle.lock.specs.World.{World}
+use Rattle.table.specs.Numbers.{ready}
 use Rattle.state.specs.ThreadsLaws.{make-running}
 use Rattle.system.specs.declared.System.{System}
-use Rattle.system.specs.System.{coreIn, gangIn, occupantIn, firstIn, aheadIn}
+use Rattle.system.specs.System.{stateIn, coreIn, gangIn, occupantIn, firstIn, aheadIn}
 use Rattle.reason.specs.declared.Explained.{Explained}
 use Rattle.reason.specs.declared.Reason.the-variants as reason
 use Rattle.reason.specs.Reasons.{Past7}
@@ -19,9 +20,10 @@ use Rattle.reason.specs.Why.{whyOf, explanationRefusal}
 use Rattle.reason.specs.WhyLaws.{why-beyond}
 use Rattle.reason.specs.FirstHeld.{is-first}
 use Rattle.reason.specs.Exactly.{Gives, none-exactly}
-use Rattle.reason.specs.Ahead.{past-ready, has-first}
+use Rattle.reason.specs.Ahead.{past-ready}
 use Rattle.reached.specs.Reached.{Reached}
 use Rattle.reached.specs.Formed.{reached-formed, reached-well, reached-accepted}
+use Rattle.reached.specs.First.{ready-first}
 use Rattle.reached.specs.WorldOf.{worldOf}
 use Rattle.reached.specs.GoodReached.{reached-good}
 
@@ -32,7 +34,11 @@ module _ {s : System} (R : Reached s) (t : ℕ) (l : t < s .table .threads) (p :
   good : Good world (s .lock)
   good = reached-good R
 
-  -- the sixth reason does not hold, so the thread is its core's first ready one
+  -- neither of the first two reasons holds, so the thread is ready
+  its-ready : stateIn s t ≡ ready
+  its-ready = past-ready s (reached-formed R) t l (p .0 .0 .0 .0 .0)
+
+  -- the sixth does not hold, so it is its core's first ready thread
   its-first : firstIn s (coreIn s t) ≡ t
   its-first = is-first s t (p .0)
 
@@ -41,11 +47,11 @@ module _ {s : System} (R : Reached s) (t : ℕ) (l : t < s .table .threads) (p :
       → Stands world (s .lock .holder) (coreIn s t) x y (occupantIn s (coreIn s t)) → ⊥
   stands-nowhere true y k b st =
       p .0 .0 .0 .0 .1
-      (make-running (s .state) (s .table .core) (s .lock .occupant) t (past-ready s (reached-formed R) t l (p .0 .0 .0 .0 .0)) (st .2 ∙ its-first), k)
+      (make-running (s .state) (s .table .core) (s .lock .occupant) t its-ready (st .2 ∙ its-first), k)
   stands-nowhere false true k b st =
       p .1 (s .lock .holder)
       (refl, λ free. clash b (ap (λ (m : ℕ). has m (coreIn s t)) (good .idle free) ∙ has-empty (coreIn s t)), ap (λ (u : ℕ). aheadIn s (s .lock .holder) (gangIn s u)) (sym its-first) ∙ st .1)
-  stands-nowhere false false k b st = has-first s (reached-formed R) t l (p .0 .0 .0 .0 .0) (st .0)
+  stands-nowhere false false k b st = ready-first s (reached-accepted R) (coreIn s t) t (l, its-ready) refl (st .0)
 
   some-reason : ⊥
   some-reason =

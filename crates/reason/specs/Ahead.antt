@@ -34,7 +34,7 @@ module _ (s : System) (w : WellFormed s) (t : ℕ) (l : t < s .table .threads) (
   stands = make-standing (s .state) (s .table .core) (coreIn s t) t past-ready refl
 
   -- so its core has a first ready thread
-  pub has-first : firstIn s (coreIn s t) ≡ 255 → ⊥
+  has-first : firstIn s (coreIn s t) ≡ 255 → ⊥
   has-first e = first .none e t l stands
 
   pub named-ahead : (u : ℕ) → IsBehind s t u → AheadOnCore s t u
