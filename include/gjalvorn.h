@@ -103,11 +103,16 @@ enum gjalvorn_refusal {
 
 // ---- The system and its parts. Unused places are 0, except that an occupant and the holder are 255 for none.
 
+// How many cores, gangs and threads there are.
+typedef struct gjalvorn_sizes {
+    uint8_t cores;   // 1 to 32, or 0 in the empty system
+    uint8_t gangs;   // 1 to 32, or 0 in the empty system
+    uint8_t threads; // up to 128, each gang has one at least
+} gjalvorn_sizes;
+
 // The table of cores, gangs and pinned threads.
 typedef struct gjalvorn_table {
-    uint8_t cores;   // how many cores there are: 1 to 32, or 0 in the empty system
-    uint8_t gangs;   // how many gangs: 1 to 32, or 0 in the empty system
-    uint8_t threads; // how many threads: up to 128, each gang has one at least
+    gjalvorn_sizes sizes;
     uint8_t priority[GJALVORN_MAX_GANGS]; // each gang's priority
     uint32_t budget[GJALVORN_MAX_GANGS];  // each gang's budget
     uint8_t gang[GJALVORN_MAX_THREADS];   // each thread's gang
@@ -156,6 +161,14 @@ typedef struct gjalvorn_answered {
     gjalvorn_system system;
     gjalvorn_answer answer;
 } gjalvorn_answered;
+
+// A lock but for the occupants, each field as in gjalvorn_lock: what an event on lent parts takes by value.
+typedef struct gjalvorn_held {
+    uint8_t holder;
+    uint32_t locked;
+    uint32_t blocked;
+    uint32_t owing;
+} gjalvorn_held;
 
 // What an event on lent parts comes to beside them. The owing and the locked cores after the event are the answer's.
 typedef struct gjalvorn_outcome {
@@ -246,13 +259,13 @@ gjalvorn_answered gjalvorn_apply(gjalvorn_system system, gjalvorn_event event);
 // Any event, as gjalvorn_apply does it, on the parts of a system, which are lent for the call and changed where they are. The caller
 // then stores the holder, the blocked, the owing and the locked cores that it is given. A refused event changes nothing.
 gjalvorn_outcome gjalvorn_apply_lent(
-    uint8_t cores, uint8_t gangs, uint8_t threads,
+    gjalvorn_sizes sizes,
     const uint8_t priority[GJALVORN_MAX_GANGS], const uint32_t budget[GJALVORN_MAX_GANGS],
     const uint8_t gang[GJALVORN_MAX_THREADS], const uint8_t core[GJALVORN_MAX_THREADS],
     uint8_t state[GJALVORN_MAX_THREADS],
     uint32_t number[GJALVORN_MAX_GANGS], uint32_t served[GJALVORN_MAX_GANGS],
     uint32_t skipped[GJALVORN_MAX_GANGS], uint32_t job[GJALVORN_MAX_GANGS],
-    uint8_t holder, uint32_t locked, uint32_t blocked, uint32_t owing, uint8_t occupant[GJALVORN_MAX_CORES],
+    gjalvorn_held held, uint8_t occupant[GJALVORN_MAX_CORES],
     uint32_t kept[GJALVORN_MAX_CORES],
     gjalvorn_event event);
 
@@ -263,11 +276,12 @@ static inline gjalvorn_answer gjalvorn_apply_to(gjalvorn_system *system, gjalvor
     gjalvorn_table *table = &system->table;
     gjalvorn_ledger *ledger = &system->ledger;
     gjalvorn_lock *lock = &system->lock;
+    gjalvorn_held held = {lock->holder, lock->locked, lock->blocked, lock->owing};
     gjalvorn_outcome outcome = gjalvorn_apply_lent(
-        table->cores, table->gangs, table->threads, table->priority, table->budget, table->gang, table->core,
+        table->sizes, table->priority, table->budget, table->gang, table->core,
         system->state,
         ledger->number, ledger->served, ledger->skipped, ledger->job,
-        lock->holder, lock->locked, lock->blocked, lock->owing, lock->occupant,
+        held, lock->occupant,
         system->kept,
         event);
     lock->holder = outcome.holder;

@@ -139,11 +139,11 @@ static bool ask(gjalvorn_system system, const recording *rec)
         printf("stopped %u at %zu\n", batched.number, rec->events + batched.read);
         return false;
     }
-    for (uint8_t gang = 0; gang < system.table.gangs; gang++)
+    for (uint8_t gang = 0; gang < system.table.sizes.gangs; gang++)
         ask_gang(batched.system, gang);
-    for (uint8_t core = 0; core < system.table.cores; core++)
+    for (uint8_t core = 0; core < system.table.sizes.cores; core++)
         ask_core(batched.system, core);
-    for (uint8_t thread = 0; thread < system.table.threads; thread++)
+    for (uint8_t thread = 0; thread < system.table.sizes.threads; thread++)
         ask_thread(batched.system, thread);
     printf("owing: %" PRIu32 " cores, the lowest %" PRIu32 "\n", gjalvorn_owing_count(batched.system).value,
            gjalvorn_lowest_owing(batched.system).value);

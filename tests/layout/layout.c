@@ -8,10 +8,12 @@
 
 static void parts(void)
 {
+    SIZE("Sizes", gjalvorn_sizes);
+    FIELD("Sizes", gjalvorn_sizes, cores);
+    FIELD("Sizes", gjalvorn_sizes, gangs);
+    FIELD("Sizes", gjalvorn_sizes, threads);
     SIZE("Table", gjalvorn_table);
-    FIELD("Table", gjalvorn_table, cores);
-    FIELD("Table", gjalvorn_table, gangs);
-    FIELD("Table", gjalvorn_table, threads);
+    FIELD("Table", gjalvorn_table, sizes);
     FIELD("Table", gjalvorn_table, priority);
     FIELD("Table", gjalvorn_table, budget);
     FIELD("Table", gjalvorn_table, gang);
@@ -27,6 +29,11 @@ static void parts(void)
     FIELD("Lock", gjalvorn_lock, blocked);
     FIELD("Lock", gjalvorn_lock, owing);
     FIELD("Lock", gjalvorn_lock, occupant);
+    SIZE("Held", gjalvorn_held);
+    FIELD("Held", gjalvorn_held, holder);
+    FIELD("Held", gjalvorn_held, locked);
+    FIELD("Held", gjalvorn_held, blocked);
+    FIELD("Held", gjalvorn_held, owing);
 }
 
 static void system_and_events(void)

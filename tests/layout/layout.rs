@@ -1,8 +1,8 @@
 //! Prints the size of every struct of the Rust bindings and the place of every field in it, in the order of layout.c.
 
 use gjalvorn::raw::{
-    AnswerRecord, Answered, Batched, EventValue, Found, Ledger, Lock, Outcome, ReasonFound, System,
-    SystemRead, Table,
+    AnswerRecord, Answered, Batched, EventValue, Found, Held, Ledger, Lock, Outcome, ReasonFound,
+    Sizes, System, SystemRead, Table,
 };
 use std::mem::{size_of, MaybeUninit};
 use std::ptr::addr_of;
@@ -23,9 +23,11 @@ macro_rules! layout {
 }
 
 fn main() {
-    layout!(Table: cores, gangs, threads, priority, budget, gang, core);
+    layout!(Sizes: cores, gangs, threads);
+    layout!(Table: sizes, priority, budget, gang, core);
     layout!(Ledger: number, served, skipped, job);
     layout!(Lock: holder, locked, blocked, owing, occupant);
+    layout!(Held: holder, locked, blocked, owing);
     layout!(System: table, state, ledger, lock, kept);
     layout!(AnswerRecord: refusal, value, number, owing, locked);
     layout!(Answered: system, answer);

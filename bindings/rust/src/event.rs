@@ -1,6 +1,6 @@
 //! The seven events: each by its own method, any by its value or its kind.
 
-use crate::raw::{self, AnswerRecord, EventValue, System};
+use crate::raw::{self, AnswerRecord, EventValue, Held, System};
 
 /// The kinds of the events.
 pub mod kind {
@@ -123,15 +123,19 @@ impl System {
             lock,
             kept,
         } = self;
+        let held = Held {
+            holder: lock.holder,
+            locked: lock.locked,
+            blocked: lock.blocked,
+            owing: lock.owing,
+        };
         // SAFETY: each pointer is to one whole array of the system, each array
         // is lent once, and the system is borrowed alone until the call is
         // back, which keeps none of them. The rest are plain values, any of
         // them.
         let outcome = unsafe {
             raw::gjalvorn_apply_lent(
-                table.cores,
-                table.gangs,
-                table.threads,
+                table.sizes,
                 &table.priority,
                 &table.budget,
                 &table.gang,
@@ -141,10 +145,7 @@ impl System {
                 &mut ledger.served,
                 &mut ledger.skipped,
                 &mut ledger.job,
-                lock.holder,
-                lock.locked,
-                lock.blocked,
-                lock.owing,
+                held,
                 &mut lock.occupant,
                 kept,
                 event,

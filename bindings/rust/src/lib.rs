@@ -14,7 +14,7 @@ pub mod raw;
 
 pub use event::{kind, Event};
 pub use questions::reason;
-pub use raw::{AnswerRecord, EventValue, Found, Ledger, Lock, ReasonFound, System, Table};
+pub use raw::{AnswerRecord, EventValue, Found, Ledger, Lock, ReasonFound, Sizes, System, Table};
 
 /// What reading a table gives: the system, the refusal's number and its place.
 pub type TableRead = raw::SystemRead;

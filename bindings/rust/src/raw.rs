@@ -1,15 +1,23 @@
 //! The proved library as it is: its structs, field by field, and its calls.
 
+/// How many cores, gangs and threads there are.
+#[repr(C)]
+#[derive(Clone, Copy, Debug, PartialEq, Eq)]
+pub struct Sizes {
+    /// Cores, 1 to 32; 0 in the empty system.
+    pub cores: u8,
+    /// Gangs, 1 to 32; 0 in the empty system.
+    pub gangs: u8,
+    /// Threads, at most 128; each gang has one at least.
+    pub threads: u8,
+}
+
 /// Each gang's priority and budget, and each thread's gang and core.
 #[repr(C)]
 #[derive(Clone, Copy, Debug, PartialEq, Eq)]
 pub struct Table {
-    /// How many cores there are, 1 to 32; 0 in the empty system.
-    pub cores: u8,
-    /// How many gangs there are, 1 to 32.
-    pub gangs: u8,
-    /// How many threads there are, at most 128.
-    pub threads: u8,
+    /// How many of each there are.
+    pub sizes: Sizes,
     /// Each gang's priority, 1 to 99, larger is higher.
     pub priority: [u8; 32],
     /// Each gang's budget, 0 to 1,000,000 transactions an interval.
@@ -48,6 +56,17 @@ pub struct Lock {
     pub owing: u32,
     /// Each core's occupant, a thread or 255 for none.
     pub occupant: [u8; 32],
+}
+
+/// A lock but for the occupants, each field as in [`Lock`]: what an event on
+/// lent parts takes by value.
+#[repr(C)]
+#[derive(Clone, Copy, Debug, PartialEq, Eq)]
+pub struct Held {
+    pub holder: u8,
+    pub locked: u32,
+    pub blocked: u32,
+    pub owing: u32,
 }
 
 /// The system. Every field is open: any value may be handed to any call, and
@@ -192,9 +211,7 @@ extern "C" {
     pub fn gjalvorn_tick(system: System) -> Answered;
     pub fn gjalvorn_apply(system: System, event: EventValue) -> Answered;
     pub fn gjalvorn_apply_lent(
-        cores: u8,
-        gangs: u8,
-        threads: u8,
+        sizes: Sizes,
         priority: *const [u8; 32],
         budget: *const [u32; 32],
         gang: *const [u8; 128],
@@ -204,10 +221,7 @@ extern "C" {
         served: *mut [u32; 32],
         skipped: *mut [u32; 32],
         job: *mut [u32; 32],
-        holder: u8,
-        locked: u32,
-        blocked: u32,
-        owing: u32,
+        held: Held,
         occupant: *mut [u8; 32],
         kept: *mut [u32; 32],
         event: EventValue,

@@ -1,4 +1,3 @@
 -- Laws that the proofs of this crate's functions cite.
-pub mod Came
 pub mod Lent
 pub mod Sofar

@@ -6,7 +6,7 @@ use mathlib.Core.List.{List, []}
 use native.Mathlib.Omega.{arith}
 use lib.ListN.{length, getD, take, length-take}
 use Rattle.system.specs.Events.{stepOf, applyOf}
-use Rattle.system.specs.Shaped.{Shaped}
+use Rattle.effects.specs.Facts.{Shaped}
 use Rattle.system.specs.WellFormed.{wellFormed}
 use Rattle.system.specs.declared.System.{System}
 use Rattle.wire.specs.Answer.{answerSize}
@@ -16,18 +16,20 @@ use Rattle.wire.specs.declared.answer.AnswerRecord.{AnswerRecord}
 use Rattle.wire.specs.declared.event.Event.{Event}
 use Rattle.wire.specs.declared.refusal.Refusal.the-variants.{NotWellFormed}
 use Rattle.batch.specs.declared.Batched.{Batched}
-use Rattle.batch.specs.Turn.{Run, Came, written, batched, outputOf, stopped, answerTo}
-use Rattle.batch.specs.Batch.{ended, runOf, batchOf}
-use Rattle.batch.specs.BatchCases.{batch-well, batch-ill}
-use Rattle.batch.specs.Bounds.{written-is, read-fits, written-fits}
-use Rattle.batch.specs.History.{eventsOf, systemAfter, answers-length, answer-at}
-use Rattle.batch.specs.Keeps.{Sound, ran-sound, ran-apply}
-use Rattle.batch.specs.Ran.{Ran, ends, ran, run-is}
-use Rattle.batch.specs.RanLaws.{Applies, ran-applies, StopsAt, ran-stops}
+use Rattle.batch.specs.Turn.{Run, Came, written, batched, outputAfter, stoppedWith, answerTo}
+use Rattle.batch.specs.Batch.{batchEnds, runOf, batchOf}
+use Rattle.batch.specs.laws.BatchCases.{batch-well, batch-ill}
+use Rattle.batch.specs.laws.Bounds.{written-is, read-fits, written-fits}
+use Rattle.batch.specs.History.{eventsOf, systemAfter}
+use Rattle.batch.specs.laws.History.{answers-length, answer-at}
+use Rattle.batch.specs.laws.RunKeeps.{WellShaped, ran-sound, ran-apply}
+use Rattle.batch.specs.laws.Ran.{Ran, ends, ran, run-is}
+use Rattle.batch.specs.Applies.{Applies, StopsAt}
+use Rattle.batch.specs.laws.Applies.{ran-applies, ran-stops}
 
 -- a promise allows one answer and one output
 pub one-outcome : (r : Run) (out : List ℕ) {x y : List ℕ} {b c : Batched} → Came r out x b → Came r out y c → (b ≡ c) × (x ≡ y)
-one-outcome r out p q = (one-answer (batched r) (p .told) (q .told), one-answer (outputOf r out) (p .output) (q .output))
+one-outcome r out p q = (one-answer (batched r) (p .told) (q .told), one-answer (outputAfter r out) (p .output) (q .output))
 
 -- the events of the bytes that a batch reads
 abbrev pub eventsRead : System → List ℕ → ℕ → List Event
@@ -41,7 +43,7 @@ module _ (s : System) (ev : List ℕ) (room : ℕ) where
   pub ran-here : wellFormed s ≡ true → Ran stepOf s ev room b
   ran-here p = rw (batch-well s ev room p) (ran stepOf (length ev) s ev room (omega arith))
 
-  by-test : (P : Run → Type 0) → ((r : Run) → Ran stepOf s ev room r → P r) → P (stopped s (numberOf NotWellFormed)) → P b
+  by-test : (P : Run → Type 0) → ((r : Run) → Ran stepOf s ev room r → P r) → P (stoppedWith s (numberOf NotWellFormed)) → P b
   by-test P p q = go (wellFormed s) refl
     where
       go : (x : Bool) → wellFormed s ≡ x → P b
@@ -59,7 +61,8 @@ module _ (s : System) (ev : List ℕ) (room : ℕ) where
   batch-written-fits = by-test (λ (r : Run). written r ≤ room) (λ r q. written-fits q) (omega arith)
 
   -- "With 14 nothing is read or written"
-  pub batch-14 : (out : List ℕ) → wellFormed s ≡ false → (batched b ≡ record { system = s; read = 0; written = 0; number = 14 }) × (outputOf b out ≡ out)
+  pub batch-14 : (out : List ℕ) → wellFormed s ≡ false
+      → (batched b ≡ record { system = s; read = 0; written = 0; number = 14 }) × (outputAfter b out ≡ out)
   batch-14 out p = rw (batch-ill s ev room p) (refl, refl)
 
   module _ (well : wellFormed s ≡ true) where
@@ -68,7 +71,7 @@ module _ (s : System) (ev : List ℕ) (room : ℕ) where
     batch-stops = ran-stops (ran-here well)
 
     module _ (shaped : Shaped s) where
-      sound : Sound s
+      sound : WellShaped s
       sound = record { shaped = shaped; well = well }
 
       -- each event is applied as `System::apply` would
@@ -77,7 +80,9 @@ module _ (s : System) (ev : List ℕ) (room : ℕ) where
 
       -- the system and the answers are those of the events read, one after the other: no batch stops applying after its first
       pub batch-events : Applies applyOf s (eventsRead s ev room) b
-      batch-events = ran-applies (ran-apply (ran-here well) sound) (length (take (b .read) ev)) (let f = batch-read-fits in simp length-take (omega arith))
+      batch-events =
+          ran-applies (ran-apply (ran-here well) sound) (length (take (b .read) ev))
+          (let f = batch-read-fits in simp length-take (omega arith))
 
       pub batch-count : length (b .answers) ≡ length (eventsRead s ev room)
       batch-count = ap length (batch-events .answers) ∙ answers-length applyOf s (eventsRead s ev room)
@@ -90,9 +95,9 @@ module _ (s : System) (ev : List ℕ) (room : ℕ) where
           ∙ answer-at applyOf s (eventsRead s ev room) k (omega (arith, batch-count)) a x
 
       -- and the system is well formed still
-      pub batch-sound : Sound (b .system)
+      pub batch-sound : WellShaped (b .system)
       batch-sound = ran-sound (ran-here well) sound
 
 -- "an empty batch (0)", room or none
-pub batch-empty : (s : System) (room : ℕ) → wellFormed s ≡ true → batchOf s [] room ≡ ended s
+pub batch-empty : (s : System) (room : ℕ) → wellFormed s ≡ true → batchOf s [] room ≡ batchEnds s
 batch-empty s room p = batch-well s [] room p ∙ run-is (ends refl) 0 (omega arith)

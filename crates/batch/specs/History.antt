@@ -1,9 +1,7 @@
 -- The events of some bytes, and what they come to one after the other.
-use Prim.Native.Nat.{ℕ, zero, suc, _<_}
-use mathlib.Core.Path.{_≡_, refl, ap}
+use Prim.Native.Nat.{ℕ, zero, suc}
 use mathlib.Core.List.{List, [], _∷_, foldl}
-use native.Mathlib.Omega.{arith}
-use lib.ListN.{length, getD, take, drop}
+use lib.ListN.{length, drop}
 use Rattle.system.specs.declared.System.{System}
 use Rattle.system.specs.declared.events.Reply.{Reply}
 use Rattle.wire.specs.Event.{nextEvent}
@@ -37,15 +35,3 @@ module _ (step : System → Event → Reply) where
   abbrev pub answersTo : System → List Event → List AnswerRecord
   answersTo s [] = []
   answersTo s (e ∷ es) = answerTo (step s e) ∷ answersTo (step s e .system) es
-
-  -- "one ANSWER each"
-  pub answers-length : (s : System) (es : List Event) → length (answersTo s es) ≡ length es
-  answers-length s [] = refl
-  answers-length s (e ∷ es) = ap suc (answers-length (step s e .system) es)
-
-  -- answer k is that of event k, on the system after the k events before it
-  pub answer-at : (s : System) (es : List Event) (k : ℕ) → k < length es → (a : AnswerRecord) (x : Event)
-      → getD (answersTo s es) k a ≡ answerTo (step (systemAfter s (take k es)) (getD es k x))
-  answer-at s [] k l a x = absurd (omega arith)
-  answer-at s (e ∷ es) zero l a x = refl
-  answer-at s (e ∷ es) (suc k) l a x = answer-at (step s e .system) es k (omega arith) a x

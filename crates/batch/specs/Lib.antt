@@ -1,14 +1,8 @@
 pub mod Turn
 pub mod Batch
-pub mod EventRecord
-pub mod TurnLaws
-pub mod Ran
-pub mod AndThen
-pub mod Bounds
-pub mod BatchCases
 pub mod History
-pub mod RanLaws
-pub mod Two
-pub mod Keeps
 pub mod BatchLaws
 pub mod TwoBatches
+pub mod laws
+pub mod Stops
+pub mod Applies

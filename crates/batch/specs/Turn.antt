@@ -17,7 +17,7 @@ use Rattle.wire.specs.declared.event.NextEvent.the-variants as found
 use Rattle.wire.specs.declared.refusal.Refusal.the-variants.{NoRoom}
 use Rattle.lock.specs.declared.Held.{Held}
 use Rattle.batch.specs.declared.Batched.{Batched}
-use Rattle.batch.specs.declared.turn.Turn.{Turn}
+use Rattle.batch.specs.declared.turns.Turns.{Turns}
 
 -- "gives the system, bytes read, bytes written and the number (0 at the end)", the bytes written as the answers that they are
 pub record Run : Type 0 where
@@ -41,24 +41,24 @@ abbrev pub batched : Run → Batched
 batched r = record { system = r .system; read = r .read; written = written r; number = r .number }
 
 -- "Output past the written bytes is untouched"
-abbrev pub outputOf : Run → List ℕ → List ℕ
-outputOf r out = wrote r ++ drop (written r) out
+abbrev pub outputAfter : Run → List ℕ → List ℕ
+outputAfter r out = wrote r ++ drop (written r) out
 
 -- what a call promises: its answer, and every byte of the lent output
 pub record Came (r : Run) (before after : List ℕ) (b : Batched) : Type 0 where
   pub told : b ≡ batched r
-  pub output : after ≡ outputOf r before
+  pub output : after ≡ outputAfter r before
 
 -- nothing is read and nothing written
-abbrev pub stopped : System → ℕ → Run
-stopped s n = record { system = s; read = 0; answers = []; number = n }
+abbrev pub stoppedWith : System → ℕ → Run
+stoppedWith s n = record { system = s; read = 0; answers = []; number = n }
 
--- what a turn comes to, beside the system of the parts that it was lent
-abbrev pub turnedTo : System → Turn → Batched
-turnedTo s t = record { system = s; read = t .read; written = t .written; number = t .number }
+-- what the turns come to, beside the system of the parts that they were lent
+abbrev pub batchedWith : System → Turns → Batched
+batchedWith s t = record { system = s; read = t .read; written = t .written; number = t .number }
 
-abbrev pub stoppedTurn : Held → ℕ → Turn
-stoppedTurn h n = record { held = h; read = 0; written = 0; number = n }
+abbrev pub turnsOf : Held → (read written number : ℕ) → Turns
+turnsOf h at w k = record { held = h; read = at; written = w; number = k }
 
 -- the ANSWER to an event: the owing and the locked cores are those after it
 abbrev pub answerTo : Reply → AnswerRecord
@@ -70,8 +70,8 @@ answered r next = record { system = r .system; read = next; answers = answerTo r
 
 -- "1, 2, 3" are the record question's; "13: the next answer has no room"
 abbrev pub turnWith : (System → Event → Reply) → System → ℕ → NextEvent → Run
-turnWith step s room (found.Event event next) = cond (ltb room answerSize) (stopped s (numberOf NoRoom)) (answered (step s event) next)
-turnWith step s room (found.Refused refusal) = stopped s (numberOf refusal)
+turnWith step s room (found.Event event next) = cond (ltb room answerSize) (stoppedWith s (numberOf NoRoom)) (answered (step s event) next)
+turnWith step s room (found.Refused refusal) = stoppedWith s (numberOf refusal)
 
 -- step says what an event does; s is the system, ev the bytes left, room the length of the output left
 unfoldable pub turnOf : (System → Event → Reply) → System → List ℕ → ℕ → Run

@@ -6,17 +6,17 @@ use mathlib.Core.Logic.{⊎-elim}
 use mathlib.Core.List.{List, _++_}
 use native.Mathlib.Omega.{arith}
 use lib.ListN.{length, drop}
-use Rattle.system.specs.Shaped.{Shaped}
+use Rattle.effects.specs.Facts.{Shaped}
 use Rattle.system.specs.WellFormed.{wellFormed}
 use Rattle.system.specs.declared.System.{System}
-use Rattle.batch.specs.Turn.{Run, wrote, written, outputOf}
-use Rattle.batch.specs.TurnLaws.{stops-some}
+use Rattle.batch.specs.Turn.{Run, wrote, written, outputAfter}
+use Rattle.batch.specs.laws.Turn.{stops-some}
 use Rattle.batch.specs.Batch.{andThen, batchOf}
-use Rattle.batch.specs.AndThen.{output-then}
-use Rattle.batch.specs.BatchCases.{batch-well, batch-ill}
+use Rattle.batch.specs.laws.AndThen.{output-then}
+use Rattle.batch.specs.laws.BatchCases.{batch-well, batch-ill}
 use Rattle.batch.specs.BatchLaws.{ran-here, batch-stops, batch-sound}
-use Rattle.batch.specs.Ran.{run-is}
-use Rattle.batch.specs.Two.{ran-two}
+use Rattle.batch.specs.laws.Ran.{run-is}
+use Rattle.batch.specs.laws.Two.{ran-two}
 
 -- a batch that ends with 0
 module _ (s : System) (a : List ℕ) (room : ℕ) (zero : batchOf s a room .number ≡ 0) where
@@ -45,7 +45,8 @@ module _ (s : System) (a : List ℕ) (room : ℕ) (zero : batchOf s a room .numb
     two-batches =
         let later = batch-sound s a room zero-well shaped .well in
         batch-well s (a ++ b) room zero-well
-        ∙ run-is (ran-two (ran-here s a room zero-well) zero b second (ran-here (first .system) b (room - written first) later)) (length (a ++ b)) (omega arith)
+        ∙ run-is (ran-two (ran-here s a room zero-well) zero b second (ran-here (first .system) b (room - written first) later))
+        (length (a ++ b)) (omega arith)
 
-    pub two-outputs : (out : List ℕ) → outputOf (batchOf s (a ++ b) room) out ≡ wrote first ++ outputOf second (drop (written first) out)
-    two-outputs out = ap (λ (r : Run). outputOf r out) two-batches ∙ sym (output-then first second out)
+    pub two-outputs : (out : List ℕ) → outputAfter (batchOf s (a ++ b) room) out ≡ wrote first ++ outputAfter second (drop (written first) out)
+    two-outputs out = ap (λ (r : Run). outputAfter r out) two-batches ∙ sym (output-then first second out)

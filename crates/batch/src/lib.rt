@@ -3,12 +3,13 @@ ghost use mathlib.Core.Path.{_≡_};
 ghost use lib.ListN.{length};
 ghost use Rattle.system.specs.Events.{stepOf};
 ghost use Rattle.wire.specs.Refusal.{numberOf};
-ghost use Rattle.batch.specs.Turn.{Came, batched, stopped};
+ghost use Rattle.batch.specs.Turn.{Came, batched, stoppedWith};
 ghost use Rattle.batch.specs.Batch.{runOf, batchOf};
+use ledger::Ledger;
 use system::System;
 use wire::refusal::Refusal;
 
-mod turn;
+mod turns;
 
 // What a batch comes to: the system, the bytes read and written, and the number it stopped with, 0 at the end of the events.
 #[repr(C)]
@@ -32,7 +33,7 @@ pub fn batch(system: System, events: &[u8], out: &mut [u8]) -> Batched
 
 // Nothing is read and nothing written.
 fn stopped(system: System, refusal: Refusal) -> Batched
-    ensures { λ r. ⌜ r ≡ batched (stopped system (numberOf refusal)) ⌝ }
+    ensures { λ r. ⌜ r ≡ batched (stoppedWith system (numberOf refusal)) ⌝ }
 {
     Batched {
         system,
@@ -42,24 +43,24 @@ fn stopped(system: System, refusal: Refusal) -> Batched
     }
 }
 
-// Every turn on the system's parts, which are lent, so that a turn copies none of them.
+// Every turn on the system's parts, which are lent, so that a turn copies none of them. The one place that takes a system apart and puts it together.
 fn run(system: System, events: &[u8], out: &mut [u8]) -> Batched
-    ensures { λ r. ⌜ Came (runOf stepOf (length (now (events .entry))) system (now (events .entry)) (length (now (out .entry)))) (now (out .entry)) (now (out .exit)) r ⌝ }
+    ensures { λ r. ⌜ Came (runOf stepOf (length (now (events .entry))) system (now (events .entry)) (length (now (out .entry))))
+        (now (out .entry)) (now (out .exit)) r ⌝ }
 {
     let table = system.table;
-    let before = system.ledger;
+    let ledger = system.ledger;
     let lock = system.lock;
+    let held = lock.held();
     let mut state = system.state;
-    let mut number = before.number;
-    let mut served = before.served;
-    let mut skipped = before.skipped;
-    let mut job = before.job;
+    let mut number = ledger.number;
+    let mut served = ledger.served;
+    let mut skipped = ledger.skipped;
+    let mut job = ledger.job;
     let mut occupant = lock.occupant;
     let mut kept = system.kept;
-    let turns = turn::take_turns(
-        table.cores,
-        table.gangs,
-        table.threads,
+    let turns = turns::take_turns(
+        table.sizes,
         &table.priority,
         &table.budget,
         &table.gang,
@@ -69,26 +70,27 @@ fn run(system: System, events: &[u8], out: &mut [u8]) -> Batched
         &mut served,
         &mut skipped,
         &mut job,
-        lock.held(),
+        held,
         &mut occupant,
         &mut kept,
         events,
         out,
     );
     let held = turns.held;
-    let after = System::of_parts(
-        table,
-        state,
-        number,
-        served,
-        skipped,
-        job,
-        held,
-        occupant,
-        kept,
-    );
+    let lock = held.with(occupant);
     Batched {
-        system: after,
+        system: System {
+            table,
+            state,
+            ledger: Ledger {
+                number,
+                served,
+                skipped,
+                job,
+            },
+            lock,
+            kept,
+        },
         read: turns.read,
         written: turns.written,
         number: turns.number,

@@ -1,4 +1,3 @@
 pub mod Set
-pub mod Bits
-pub mod Laws
 pub mod Counting
+pub mod laws

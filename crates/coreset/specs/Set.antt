@@ -13,16 +13,16 @@ unfoldable pub has : ℕ → ℕ → Bool
 has m c = eqb (bit m c) 1
 
 -- m with v, 0 or 1, as its bit c: the bits above c, then v, then the bits below c
-unfoldable pub put : ℕ → ℕ → ℕ → ℕ
-put m c v = (m / 2 ^ c / 2 * 2 + v) * 2 ^ c + m % 2 ^ c
+unfoldable pub withBit : ℕ → ℕ → ℕ → ℕ
+withBit m c v = (m / 2 ^ c / 2 * 2 + v) * 2 ^ c + m % 2 ^ c
 
 -- m with core c
 unfoldable pub withCore : ℕ → ℕ → ℕ
-withCore m c = put m c 1
+withCore m c = withBit m c 1
 
 -- m without core c
 unfoldable pub withoutCore : ℕ → ℕ → ℕ
-withoutCore m c = put m c 0
+withoutCore m c = withBit m c 0
 
 -- m with core c where k cores have room for it, and m as it is where not
 unfoldable pub withinWidth : ℕ → ℕ → ℕ → ℕ

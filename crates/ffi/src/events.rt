@@ -2,8 +2,9 @@
 ghost use mathlib.Core.Path.{_≡_};
 ghost use Rattle.table.specs.Numbers.{finished, waiting};
 ghost use Rattle.wire.specs.declared.refusal.Refusal.the-variants.{WrongKind};
-ghost use Rattle.system.specs.Events.{refusedBy, checked, releaseStep, leaveStep, wakeStep, serveStep, trafficStep, tickStep, applyOf};
+ghost use Rattle.system.specs.Events.{refusedBy, checked, releaseStep, leaveStep, wakeStep, serveStep, trafficStep, tickStep};
 ghost use Rattle.ffi.specs.Calls.{answeredOf, namedBy, appliedOf};
+use system::Reply;
 use system::System;
 use wire::answer::Answer;
 use wire::answer::AnswerRecord;
@@ -58,56 +59,15 @@ pub(crate) fn event_named(value: EventValue) -> Named
     }
 }
 
-// Any event on the system's parts, which are lent, so that the event copies none of them.
-fn applied(system: System, event: Event) -> Answered
-    ensures { λ r. ⌜ r ≡ answeredOf (applyOf system event) ⌝ }
+// The system after an event, and its answer as the fields of its record.
+fn with_answer(reply: Reply) -> Answered
+    ensures { λ r. ⌜ r ≡ answeredOf reply ⌝ }
 {
-    let table = system.table;
-    let before = system.ledger;
+    let system = reply.system;
     let lock = system.lock;
-    let mut state = system.state;
-    let mut number = before.number;
-    let mut served = before.served;
-    let mut skipped = before.skipped;
-    let mut job = before.job;
-    let mut occupant = lock.occupant;
-    let mut kept = system.kept;
-    let stepped = system::steps::apply(
-        table.cores,
-        table.gangs,
-        table.threads,
-        &table.priority,
-        &table.budget,
-        &table.gang,
-        &table.core,
-        &mut state,
-        &mut number,
-        &mut served,
-        &mut skipped,
-        &mut job,
-        lock.held(),
-        &mut occupant,
-        &mut kept,
-        event,
-    );
-    let outcome = stepped.answer;
-    let held = stepped.held;
-    let answer = wire::answer::record_of(outcome, held.owing, held.locked);
-    let after = System::of_parts(
-        table,
-        state,
-        number,
-        served,
-        skipped,
-        job,
-        held,
-        occupant,
-        kept,
-    );
-    Answered {
-        system: after,
-        answer,
-    }
+    let outcome = reply.answer;
+    let answer = wire::answer::record_of(outcome, lock.owing, lock.locked);
+    Answered { system, answer }
 }
 
 // RELEASE a gang.
@@ -115,7 +75,7 @@ fn applied(system: System, event: Event) -> Answered
 pub extern "C" fn gjalvorn_release(system: System, gang: u8) -> Answered
     ensures { λ r. ⌜ r ≡ answeredOf (checked system (releaseStep system gang)) ⌝ }
 {
-    applied(system, Event::Release(gang))
+    with_answer(system.release(gang))
 }
 
 // FINISH a thread.
@@ -123,7 +83,7 @@ pub extern "C" fn gjalvorn_release(system: System, gang: u8) -> Answered
 pub extern "C" fn gjalvorn_finish(system: System, thread: u8) -> Answered
     ensures { λ r. ⌜ r ≡ answeredOf (checked system (leaveStep system thread finished)) ⌝ }
 {
-    applied(system, Event::Finish(thread))
+    with_answer(system.finish(thread))
 }
 
 // WAIT of a thread.
@@ -131,7 +91,7 @@ pub extern "C" fn gjalvorn_finish(system: System, thread: u8) -> Answered
 pub extern "C" fn gjalvorn_wait(system: System, thread: u8) -> Answered
     ensures { λ r. ⌜ r ≡ answeredOf (checked system (leaveStep system thread waiting)) ⌝ }
 {
-    applied(system, Event::Wait(thread))
+    with_answer(system.wait(thread))
 }
 
 // WAKE a thread.
@@ -139,7 +99,7 @@ pub extern "C" fn gjalvorn_wait(system: System, thread: u8) -> Answered
 pub extern "C" fn gjalvorn_wake(system: System, thread: u8) -> Answered
     ensures { λ r. ⌜ r ≡ answeredOf (checked system (wakeStep system thread)) ⌝ }
 {
-    applied(system, Event::Wake(thread))
+    with_answer(system.wake(thread))
 }
 
 // SERVE a core.
@@ -147,7 +107,7 @@ pub extern "C" fn gjalvorn_wake(system: System, thread: u8) -> Answered
 pub extern "C" fn gjalvorn_serve(system: System, core: u8) -> Answered
     ensures { λ r. ⌜ r ≡ answeredOf (checked system (serveStep system core)) ⌝ }
 {
-    applied(system, Event::Serve(core))
+    with_answer(system.serve(core))
 }
 
 // TRAFFIC from a core.
@@ -155,7 +115,7 @@ pub extern "C" fn gjalvorn_serve(system: System, core: u8) -> Answered
 pub extern "C" fn gjalvorn_traffic(system: System, core: u8, transactions: u32) -> Answered
     ensures { λ r. ⌜ r ≡ answeredOf (checked system (trafficStep system core transactions)) ⌝ }
 {
-    applied(system, Event::Traffic { core, transactions })
+    with_answer(system.traffic(core, transactions))
 }
 
 // TICK.
@@ -163,7 +123,7 @@ pub extern "C" fn gjalvorn_traffic(system: System, core: u8, transactions: u32) 
 pub extern "C" fn gjalvorn_tick(system: System) -> Answered
     ensures { λ r. ⌜ r ≡ answeredOf (checked system (tickStep system)) ⌝ }
 {
-    applied(system, Event::Tick)
+    with_answer(system.tick())
 }
 
 // Any event. A kind that is no event's is refused as a record of that kind is: 14 first, then 2.
@@ -172,7 +132,7 @@ pub extern "C" fn gjalvorn_apply(system: System, event: EventValue) -> Answered
     ensures { λ r. ⌜ r ≡ appliedOf system event ⌝ }
 {
     match event_named(event) {
-        Named::Event(known) => applied(system, known),
+        Named::Event(known) => with_answer(system.apply(known)),
         Named::Unknown => unknown(system),
     }
 }
@@ -182,17 +142,18 @@ fn unknown(system: System) -> Answered
     ensures { λ r. ⌜ r ≡ answeredOf (checked system (refusedBy system WrongKind)) ⌝ }
 {
     if system.well_formed() {
-        refused(system, Refusal::WrongKind)
+        with_answer(refused(system, Refusal::WrongKind))
     } else {
-        refused(system, Refusal::NotWellFormed)
+        with_answer(refused(system, Refusal::NotWellFormed))
     }
 }
 
 // The system as it came, beside a refusal.
-fn refused(system: System, refusal: Refusal) -> Answered
-    ensures { λ r. ⌜ r ≡ answeredOf (refusedBy system refusal) ⌝ }
+fn refused(system: System, refusal: Refusal) -> Reply
+    ensures { λ r. ⌜ r ≡ refusedBy system refusal ⌝ }
 {
-    let lock = system.lock;
-    let answer = wire::answer::record_of(Answer::Refused(refusal), lock.owing, lock.locked);
-    Answered { system, answer }
+    Reply {
+        system,
+        answer: Answer::Refused(refusal),
+    }
 }

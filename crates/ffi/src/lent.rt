@@ -1,15 +1,14 @@
 // Any event in place: for a caller that lends the parts of its system, so that none is copied.
 ghost use mathlib.Core.Path.{_≡_};
-ghost use Rattle.lock.specs.Serve.{heldOf};
 ghost use Rattle.system.specs.Parts.{systemOf, steppedOf};
 ghost use Rattle.wire.specs.declared.answer.Answer.the-variants.{Refused};
-ghost use Rattle.ffi.specs.Calls.{answeredBy, appliedOf};
-ghost use Rattle.ffi.specs.Outcomes.{outcomeOf, heldIn};
+ghost use Rattle.ffi.specs.Outcomes.{AppliedInPlace, outcomeOf, heldIn};
 use crate::events::EventValue;
 use crate::events::Named;
 use crate::events::event_named;
 use lock::Held;
 use system::steps::Stepped;
+use table::Sizes;
 use wire::answer::Answer;
 use wire::answer::AnswerRecord;
 use wire::refusal::Refusal;
@@ -47,9 +46,7 @@ fn refused(held: Held, refusal: Refusal) -> Outcome
 // Any event, as `gjalvorn_apply` does it, on the parts of a system that are lent.
 #[no_mangle]
 pub extern "C" fn gjalvorn_apply_lent<'a>(
-    cores: u8,
-    gangs: u8,
-    threads: u8,
+    sizes: Sizes,
     priority: &'a [u8; 32],
     budget: &'a [u32; 32],
     gang: &'a [u8; 128],
@@ -59,27 +56,37 @@ pub extern "C" fn gjalvorn_apply_lent<'a>(
     served: &'a mut [u32; 32],
     skipped: &'a mut [u32; 32],
     job: &'a mut [u32; 32],
-    holder: u8,
-    locked: u32,
-    blocked: u32,
-    owing: u32,
+    held: Held,
     occupant: &'a mut [u8; 32],
     kept: &'a mut [u32; 32],
     event: EventValue,
 ) -> Outcome
-    ensures { λ r. ⌜ appliedOf (systemOf cores gangs threads (now (priority .entry)) (now (budget .entry)) (now (gang .entry)) (now (core .entry)) (now (state .entry)) (now (number .entry)) (now (served .entry)) (now (skipped .entry)) (now (job .entry)) (heldOf holder locked blocked owing) (now (occupant .entry)) (now (kept .entry))) event ≡ answeredBy (systemOf cores gangs threads (now (priority .entry)) (now (budget .entry)) (now (gang .entry)) (now (core .entry)) (now (state .exit)) (now (number .exit)) (now (served .exit)) (now (skipped .exit)) (now (job .exit)) (heldIn r) (now (occupant .exit)) (now (kept .exit))) (r .answer) ⌝ }
+    ensures { λ r. ⌜ AppliedInPlace
+        (systemOf sizes (now (priority .entry)) (now (budget .entry)) (now (gang .entry)) (now (core .entry)) (now (state .entry))
+        (now (number .entry)) (now (served .entry)) (now (skipped .entry)) (now (job .entry)) held (now (occupant .entry)) (now (kept .entry))) event
+        (systemOf sizes (now (priority .entry)) (now (budget .entry)) (now (gang .entry)) (now (core .entry)) (now (state .exit))
+        (now (number .exit)) (now (served .exit)) (now (skipped .exit)) (now (job .exit)) (heldIn r) (now (occupant .exit)) (now (kept .exit))) r ⌝ }
 {
-    let held = Held {
-        holder,
-        locked,
-        blocked,
-        owing,
-    };
+    if !system::parts_ok(
+        sizes,
+        priority,
+        budget,
+        gang,
+        core,
+        state,
+        number,
+        served,
+        skipped,
+        job,
+        held,
+        occupant,
+        kept,
+    ) {
+        return refused(held, Refusal::NotWellFormed);
+    }
     match event_named(event) {
-        Named::Event(known) => told(system::steps::apply(
-            cores,
-            gangs,
-            threads,
+        Named::Event(known) => told(system::steps::step(
+            sizes,
             priority,
             budget,
             gang,
@@ -94,30 +101,6 @@ pub extern "C" fn gjalvorn_apply_lent<'a>(
             kept,
             known,
         )),
-        Named::Unknown => {
-            if system::parts_ok(
-                cores,
-                gangs,
-                threads,
-                priority,
-                budget,
-                gang,
-                core,
-                state,
-                number,
-                served,
-                skipped,
-                job,
-                holder,
-                locked,
-                blocked,
-                owing,
-                occupant,
-                kept,
-            ) {
-                return refused(held, Refusal::WrongKind);
-            }
-            refused(held, Refusal::NotWellFormed)
-        }
+        Named::Unknown => refused(held, Refusal::WrongKind),
     }
 }

@@ -19,8 +19,8 @@ fn finding_of(told: Told) -> Found
 {
     let finding = told.finding;
     Found {
-        refusal: system::refusal_in(finding),
-        value: system::value_in(finding),
+        refusal: system::finding_refusal(finding),
+        value: system::finding_value(finding),
     }
 }
 
@@ -102,9 +102,9 @@ fn reason_of(explained: Explained) -> ReasonFound
 {
     let explanation = explained.explanation;
     ReasonFound {
-        refusal: reason::refusal_in(explanation),
-        reason: reason::number_in(explanation),
-        which: reason::which_in(explanation),
+        refusal: reason::explanation_refusal(explanation),
+        reason: reason::explanation_number(explanation),
+        which: reason::explanation_which(explanation),
     }
 }
 

@@ -1,5 +1,4 @@
 pub mod Releases
 pub mod WellFormed
-pub mod LedgerLaws
-pub mod OkLaws
-pub mod Kept
+pub mod laws
+pub mod Sized

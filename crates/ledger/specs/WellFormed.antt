@@ -25,12 +25,12 @@ unfoldable pub placeOk : Bool → ℕ → ℕ → ℕ → ℕ → Bool
 placeOk used number served skipped job = cond used (countsAgree number served skipped job) (allZero number served skipped job)
 
 -- place g, where there are so many gangs
-unfoldable pub gangPlace : ℕ → Ledger → ℕ → Bool
-gangPlace gangs l g = placeOk (ltb g gangs) (numberAt l g) (servedAt l g) (skippedAt l g) (jobAt l g)
+unfoldable pub ledgerPlace : ℕ → Ledger → ℕ → Bool
+ledgerPlace gangs l g = placeOk (ltb g gangs) (numberAt l g) (servedAt l g) (skippedAt l g) (jobAt l g)
 
 -- the whole ledger is well formed for a table of so many gangs
 unfoldable pub ledgerOk : ℕ → Ledger → Bool
-ledgerOk gangs l = every 32 (gangPlace gangs l)
+ledgerOk gangs l = every 32 (ledgerPlace gangs l)
 
 -- ---- the same as propositions
 

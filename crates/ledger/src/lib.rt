@@ -3,6 +3,8 @@ ghost use mathlib.Core.Path.{_≡_};
 ghost use lib.ListN.{getD, set};
 ghost use Rattle.ledger.specs.Releases.{raised, raisedAt, emptyLedger};
 ghost use Rattle.ledger.specs.WellFormed.{countsAgree, allZero, placeOk, ledgerOf, ledgerOk};
+use lists::put_value;
+use lists::value_at;
 
 // The last release number there is.
 pub const LAST_NUMBER: u32 = 4294967295;
@@ -52,26 +54,8 @@ pub fn ledger_ok<'a>(
     ok
 }
 
-// What one of the lists has for gang g: 0 where it has no such place.
-pub fn value_of(values: &[u32], g: u8) -> u32
-    ensures { λ r. ⌜ r ≡ getD (now (values .entry)) g 0 ⌝ }
-{
-    let at = g as usize;
-    if at < values.len() { values[at] } else { 0 }
-}
-
-// One of the lists gets a value for gang g: a place that it has not changes nothing.
-pub fn set_value(values: &mut [u32], g: u8, value: u32)
-    ensures { λ _. ⌜ now (values .exit) ≡ set (now (values .entry)) g value ⌝ }
-{
-    let at = g as usize;
-    if at < values.len() {
-        values[at] = value;
-    }
-}
-
 // Gang g's next release is served, and the job takes that number.
-pub fn serve<'a>(
+pub fn serve_release<'a>(
     number: &'a mut [u32; 32],
     served: &'a mut [u32; 32],
     job: &'a mut [u32; 32],
@@ -83,11 +67,11 @@ pub fn serve<'a>(
 {
     let taken = raise(number, g);
     raise(served, g);
-    set_value(job, g, taken);
+    put_value(job, g, taken);
 }
 
 // Gang g's next release is skipped: it takes its number all the same, and the job keeps its own.
-pub fn skip<'a>(number: &'a mut [u32; 32], skipped: &'a mut [u32; 32], g: u8)
+pub fn skip_release<'a>(number: &'a mut [u32; 32], skipped: &'a mut [u32; 32], g: u8)
     ensures numbered { λ _. ⌜ now (number .exit) ≡ raisedAt (now (number .entry)) g ⌝ }
     ensures counted { λ _. ⌜ now (skipped .exit) ≡ raisedAt (now (skipped .entry)) g ⌝ }
 {
@@ -100,9 +84,9 @@ fn raise(counts: &mut [u32], g: u8) -> u32
     ensures given { λ r. ⌜ r ≡ raised (getD (now (counts .entry)) g 0) ⌝ }
     ensures kept { λ _. ⌜ now (counts .exit) ≡ raisedAt (now (counts .entry)) g ⌝ }
 {
-    let last = value_of(counts, g);
+    let last = value_at(counts, g);
     let next = raised(last);
-    set_value(counts, g, next);
+    put_value(counts, g, next);
     next
 }
 

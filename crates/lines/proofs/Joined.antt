@@ -1,4 +1,5 @@
--- The fields of a line, each put where the one before it ends, are the line: an event's takes 58 of its 64 bytes with all the places, a thread's all of its 80.
+-- The fields of a line, each put where the one before it ends, are the line:
+-- an event's takes 58 of its 64 bytes with all the places, a thread's all of its 80.
 use Prim.Native.Nat.{ℕ, _+_, _≤_, _<_}
 use mathlib.Core.Path.{_≡_, sym, _∙_}
 use mathlib.Core.List.{List, [], _∷_, _++_}
@@ -8,7 +9,7 @@ use native.Mathlib.Omega.{arith}
 use native.Mathlib.Nat.{zero-add}
 use Rattle.lines.specs.Chars.{lineFeed, places8, places16, places32, hexPlaces, room, mostWords, threadRoom}
 use Rattle.lines.specs.Put.{Put}
-use Rattle.lines.specs.PutLaws.{put-byte, put-put, put-length}
+use Rattle.lines.specs.laws.Put.{put-byte, put-put, put-length}
 use Rattle.lines.specs.Listing.{decimalOf, hexOf, holderOf, lineOf}
 use Rattle.lines.specs.ThreadLine.{whichOf, threadLineOf}
 use Rattle.lines.specs.Shown.{Shown}

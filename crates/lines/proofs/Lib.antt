@@ -1,2 +1,3 @@
 pub mod Joined
+pub mod Some
 pub mod Words

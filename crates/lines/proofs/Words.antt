@@ -8,7 +8,7 @@ use native.Mathlib.Omega.{arith}
 use native.Mathlib.Nat.{add-zero}
 use Rattle.lines.specs.Chars.{mostWords}
 use Rattle.lines.specs.Put.{Put}
-use Rattle.lines.specs.PutLaws.{put-none, put-byte, put-put, put-as}
+use Rattle.lines.specs.laws.Put.{put-none, put-byte, put-put, put-as}
 
 -- the first i bytes of the words are put
 abbrev pub Putting : List ℕ → List ℕ → ℕ → List ℕ → ℕ → Type 0
@@ -17,7 +17,8 @@ Putting o words at after i = Put (take i words) i o after at (at + i)
 pub words-none : (o words : List ℕ) (at : ℕ) → Putting o words at o 0
 words-none o words at = rw add-zero (put-none o at)
 
-pub words-more : (o words : List ℕ) (at : ℕ) (after : List ℕ) (i : ℕ) → Putting o words at after i → i < length words → at + i < length after → at + suc i ≤ length o
+pub words-more : (o words : List ℕ) (at : ℕ) (after : List ℕ) (i : ℕ) → Putting o words at after i
+    → i < length words → at + i < length after → at + suc i ≤ length o
     → Putting o words at (set after (at + i) (getD words i 0)) (i + 1)
 words-more o words at after i p l m n =
     let q = put-put p (put-byte after (at + i) (getD words i 0) m) (omega arith) in

@@ -41,8 +41,8 @@ abbrev pub hexPlaces : ℕ
 hexPlaces = 8
 
 -- the holder's byte where no gang holds the lock
-abbrev pub none : ℕ
-none = 255
+abbrev pub noHolder : ℕ
+noHolder = 255
 
 -- the bytes that a line is lent
 abbrev pub room : ℕ

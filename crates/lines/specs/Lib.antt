@@ -1,10 +1,8 @@
 pub mod Chars
 pub mod Number
-pub mod NumberLaws
 pub mod ReadBack
 pub mod Put
-pub mod PutLaws
 pub mod Listing
-pub mod ListingLaws
 pub mod Shown
 pub mod ThreadLine
+pub mod laws

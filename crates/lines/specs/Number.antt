@@ -10,7 +10,7 @@ abbrev pub glyphOf : ℕ → ℕ
 glyphOf d = cond (ltb d ten) (digits + d) (letters + d)
 
 -- n in at most so many places: where short, in as few digits as it takes, and else in all the places
-unfoldable pub number : ℕ → Bool → ℕ → ℕ → List ℕ
-number base short zero n = []
-number base short (suc places) n =
-    cond (short && ltb n base) (glyphOf n ∷ []) (number base short places (n / base) ++ (glyphOf (n % base) ∷ []))
+unfoldable pub numeral : ℕ → Bool → ℕ → ℕ → List ℕ
+numeral base short zero n = []
+numeral base short (suc places) n =
+    cond (short && ltb n base) (glyphOf n ∷ []) (numeral base short places (n / base) ++ (glyphOf (n % base) ∷ []))

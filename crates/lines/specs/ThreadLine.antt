@@ -1,16 +1,13 @@
 -- Document 02, K3: what one thread prints after an event: "position, thread, reason in words, .. and which thread or gang where there is one".
 use Prim.Native.Nat.{ℕ}
 use mathlib.Core.List.{List, [], _∷_, _++_}
-use mathlib.Core.Bool.{true, cond}
-use lib.Dec.{eqb}
 use lib.ListN.{take}
-use Rattle.lines.specs.Chars.{lineFeed, ten, places8, places32, none, mostWords}
-use Rattle.lines.specs.Number.{number}
-use Rattle.lines.specs.Listing.{decimalOf}
+use Rattle.lines.specs.Chars.{lineFeed, places8, places32, mostWords}
+use Rattle.lines.specs.Listing.{decimalOf, someOr}
 
 -- the thread or gang, and nothing where there is none
-unfoldable pub whichOf : ℕ → List ℕ
-whichOf w = cond (eqb w none) [] (number ten true places8 w)
+abbrev pub whichOf : ℕ → List ℕ
+whichOf w = someOr [] w
 
 -- the words, as far as there are places for them
 unfoldable pub threadLineOf : ℕ → ℕ → List ℕ → ℕ → List ℕ

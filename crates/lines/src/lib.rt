@@ -3,9 +3,9 @@ ghost use mathlib.Core.Path.{_≡_};
 ghost use Prim.Native.Nat.{_+_, _<_, _≤_};
 ghost use lib.ListN.{length};
 ghost use Rattle.lines.specs.Chars.{sixteen, places8, hexPlaces};
-ghost use Rattle.lines.specs.Number.{glyphOf, number};
+ghost use Rattle.lines.specs.Number.{glyphOf, numeral};
 ghost use Rattle.lines.specs.Put.{Put};
-ghost use Rattle.lines.specs.Listing.{decimalOf, hexOf, holderOf, lineOf};
+ghost use Rattle.lines.specs.Listing.{fieldOf, decimalOf, hexOf, holderOf, lineOf};
 ghost use Rattle.lines.specs.Shown.{Shown};
 
 mod thread;
@@ -72,7 +72,7 @@ fn glyph(d: u32) -> u8
 // The digits of n from place at on, in at most so many places. As every put below, it answers the place after what it put.
 fn put_number(out: &mut [u8], at: usize, n: u32, base: u32, places: usize, short: bool) -> usize
     requires { ⌜ (2 ≤ base) × (base ≤ sixteen) × (at + places ≤ length (now out)) ⌝ }
-    ensures { λ r. ⌜ Put (number base short places n) places (now (out .entry)) (now (out .exit)) at r ⌝ }
+    ensures { λ r. ⌜ Put (numeral base short places n) places (now (out .entry)) (now (out .exit)) at r ⌝ }
 {
     if places == 0 {
         return at;
@@ -86,14 +86,22 @@ fn put_number(out: &mut [u8], at: usize, n: u32, base: u32, places: usize, short
     last + 1
 }
 
+// A number's digits and the space after them.
+fn put_field(out: &mut [u8], at: usize, n: u32, base: u32, places: usize, short: bool) -> usize
+    requires { ⌜ (2 ≤ base) × (base ≤ sixteen) × (at + places < length (now out)) ⌝ }
+    ensures { λ r. ⌜ Put (fieldOf base short places n) (places + 1) (now (out .entry)) (now (out .exit)) at r ⌝ }
+{
+    let end = put_number(out, at, n, base, places, short);
+    out[end] = SPACE;
+    end + 1
+}
+
 // A decimal number and the space after it.
 fn put_decimal(out: &mut [u8], at: usize, n: u32, places: usize) -> usize
     requires { ⌜ at + places < length (now out) ⌝ }
     ensures { λ r. ⌜ Put (decimalOf places n) (places + 1) (now (out .entry)) (now (out .exit)) at r ⌝ }
 {
-    let end = put_number(out, at, n, TEN, places, true);
-    out[end] = SPACE;
-    end + 1
+    put_field(out, at, n, TEN, places, true)
 }
 
 // A number in eight hex digits and the space after it.
@@ -101,9 +109,7 @@ fn put_hex(out: &mut [u8], at: usize, n: u32) -> usize
     requires { ⌜ at + hexPlaces < length (now out) ⌝ }
     ensures { λ r. ⌜ Put (hexOf n) (hexPlaces + 1) (now (out .entry)) (now (out .exit)) at r ⌝ }
 {
-    let end = put_number(out, at, n, SIXTEEN, HEX_PLACES, false);
-    out[end] = SPACE;
-    end + 1
+    put_field(out, at, n, SIXTEEN, HEX_PLACES, false)
 }
 
 // The holder, or '-' where there is none.

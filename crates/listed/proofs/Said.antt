@@ -2,7 +2,8 @@
 use Prim.Native.Nat.{ℕ}
 use mathlib.Core.Path.{_≡_, sym, ap, _∙_, subst}
 use mathlib.Core.List.{List}
-use Rattle.lines.specs.Shown.{Shown, shown-nothing}
+use Rattle.lines.specs.Shown.{Shown}
+use Rattle.lines.specs.laws.Shown.{shown-nothing}
 use Rattle.lines.specs.ThreadLine.{threadLineOf}
 use Rattle.system.specs.declared.System.{System}
 use Rattle.wire.specs.declared.refusal.Refusal.{Refusal}

@@ -14,10 +14,11 @@ use Rattle.system.specs.declared.System.{System}
 use Rattle.system.specs.declared.events.Reply.{Reply}
 use Rattle.system.specs.Events.{applyOf}
 use Rattle.lines.specs.Listing.{lineOf}
-use Rattle.lines.specs.Shown.{Shown, shown-nothing}
+use Rattle.lines.specs.Shown.{Shown}
+use Rattle.lines.specs.laws.Shown.{shown-nothing}
 use Rattle.lines.specs.declared.Line.{Line}
 use Rattle.listed.specs.Listed.{lineWith, lineFor, textOf, listedOf}
-use Rattle.listed.specs.ListedLaws.{text-event, listed-event, text-refused, listed-refused}
+use Rattle.listed.specs.laws.Listed.{text-event, listed-event, text-refused, listed-refused}
 use Rattle.listed.specs.declared.Listed.{Listed}
 
 -- the line of an event's kind, and of its answer beside the sets and the holder after it

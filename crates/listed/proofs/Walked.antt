@@ -5,12 +5,12 @@ use mathlib.Core.List.{List}
 use native.Mathlib.Omega.{arith}
 use lib.ListN.{length}
 use Rattle.wire.specs.Record.{recordAt}
-use Rattle.wire.specs.RecordLaws.{Within, within}
+use Rattle.wire.specs.Question.{WholeRecord, record-whole}
 use Rattle.wire.specs.declared.kinds.Stream.the-variants as stream
 use Rattle.wire.specs.declared.record.Seen.the-variants.{Record, Refused}
 use Rattle.wire.specs.declared.refusal.Refusal.{Refusal}
 use Rattle.listed.specs.Start.{splitAt, startFrom, eventsStart}
-use Rattle.listed.specs.StartLaws.{start-stop, start-go, start-end}
+use Rattle.listed.specs.laws.Start.{start-stop, start-go, start-end}
 
 -- every record before the place at is a table's, and there are turns enough for the bytes after it
 pub record Walked (s : List ℕ) (at : ℕ) : Type 0 where
@@ -40,8 +40,8 @@ module _ (s : List ℕ) (at : ℕ) (f : Walked s at) (l : at < length s) where
   pub goes : (kind next : ℕ) → recordAt stream.Table s at ≡ Record kind next → Walked s next
   goes kind next e = by (f .turns) refl
     where
-      w : Within s at next
-      w = within stream.Table s at kind next e
+      w : WholeRecord s at next
+      w = record-whole stream.Table s at e
 
       by : (n : ℕ) → f .turns ≡ n → Walked s next
       by zero z = absurd (omega (arith, f .enough))

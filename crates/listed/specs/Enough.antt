@@ -8,12 +8,12 @@ use lib.Dec.{eqb}
 use lib.ListN.{length, drop, length-drop}
 use borrow.Author.Tests.{eq-eqb}
 use Rattle.wire.specs.Event.{nextEvent}
-use Rattle.wire.specs.RecordLaws.{Within}
+use Rattle.wire.specs.Question.{WholeRecord}
+use Rattle.wire.specs.laws.Reader.{event-whole}
 use Rattle.wire.specs.declared.event.NextEvent.{NextEvent}
 use Rattle.wire.specs.declared.event.NextEvent.the-variants as found
 use Rattle.system.specs.declared.System.{System}
 use Rattle.system.specs.Events.{applyOf}
-use Rattle.listed.specs.ListedLaws.{event-within}
 use Rattle.listed.specs.Output.{Print, eventsSeen, eventsFrom}
 
 -- nothing is printed where no byte is left
@@ -33,7 +33,7 @@ module _ (print : Print) (n m : ℕ) (rest : Enough print n m) (s : System) (pos
   seen-enough : (x : NextEvent) → nextEvent bytes ≡ x
       → eventsSeen print (eventsFrom print n) s position at bytes x ≡ eventsSeen print (eventsFrom print m) s position at bytes x
   seen-enough (found.Event e next) f =
-      let w : Within bytes 0 next = event-within bytes e next f in
+      let w : WholeRecord bytes 0 next = event-whole bytes f in
       ap (λ (l : List ℕ). print position e (applyOf s e) ++ l)
       (rest (applyOf s e .system) (position + 1) (at + next) (drop next bytes) (simp length-drop (omega arith)) (simp length-drop (omega arith)))
   seen-enough (found.Refused refusal) f = refl

@@ -1,7 +1,5 @@
 pub mod Start
-pub mod StartLaws
 pub mod Listed
-pub mod ListedLaws
 pub mod Text
 pub mod Messages
 pub mod Output
@@ -15,3 +13,4 @@ pub mod WorkedInput
 pub mod WorkedText
 pub mod WorkedRest
 pub mod Worked
+pub mod laws

@@ -16,7 +16,7 @@ use Rattle.reading.specs.Reading.{defaultBudget}
 use Rattle.reading.specs.SystemRead.{systemRead}
 use Rattle.reading.specs.declared.SystemRead.{SystemRead}
 use Rattle.listed.specs.Start.{eventsStart}
-use Rattle.listed.specs.Messages.{inputTooLong, tableRefused, stopped}
+use Rattle.listed.specs.Messages.{inputTooLong, tableRefused, eventsStopped}
 
 -- ---- the events
 
@@ -25,21 +25,21 @@ abbrev pub Print : Type 0
 Print = ℕ → Event → Reply → List ℕ
 
 -- what prints the events after one: their system, the position and the place of the next, and the bytes left
-abbrev pub Rest : Type 0
-Rest = System → ℕ → ℕ → List ℕ → List ℕ
+abbrev pub PrintRest : Type 0
+PrintRest = System → ℕ → ℕ → List ℕ → List ℕ
 
 -- what an event prints, then what follows on the system that it leaves
-abbrev pub eventThen : Print → Rest → ℕ → ℕ → List ℕ → Event → Reply → List ℕ
+abbrev pub eventThen : Print → PrintRest → ℕ → ℕ → List ℕ → Event → Reply → List ℕ
 eventThen print rest position at bytes e r = print position e r ++ rest (r .system) (position + 1) at bytes
 
 -- "stopped R at P" where the record is refused
-abbrev pub eventsSeen : Print → Rest → System → ℕ → ℕ → List ℕ → NextEvent → List ℕ
+abbrev pub eventsSeen : Print → PrintRest → System → ℕ → ℕ → List ℕ → NextEvent → List ℕ
 eventsSeen print rest s position at bytes (found.Event e next) =
     eventThen print rest position (at + next) (drop next bytes) e (applyOf s e)
-eventsSeen print rest s position at bytes (found.Refused refusal) = stopped (numberOf refusal) at
+eventsSeen print rest s position at bytes (found.Refused refusal) = eventsStopped (numberOf refusal) at
 
 -- the events of the bytes left at a place, at most n of them
-unfoldable pub eventsFrom : Print → ℕ → Rest
+unfoldable pub eventsFrom : Print → ℕ → PrintRest
 eventsFrom print zero s position at bytes = []
 eventsFrom print (suc n) s position at bytes =
     cond (eqb (length bytes) 0) [] (eventsSeen print (eventsFrom print n) s position at bytes (nextEvent bytes))

@@ -44,7 +44,7 @@ reasonsBelow s position (suc n) = reasonsBelow s position n ++ reasonText s posi
 
 -- a line for each thread of the system
 abbrev pub reasonsText : System → ℕ → List ℕ
-reasonsText s position = reasonsBelow s position (s .table .threads)
+reasonsText s position = reasonsBelow s position (s .table .sizes .threads)
 
 -- of an event, those of the system after it
 abbrev pub reasonsPrinted : Print

@@ -5,7 +5,7 @@ use mathlib.Core.List.{List}
 use Rattle.system.specs.declared.System.{System}
 use Rattle.listed.specs.declared.Listed.{Listed}
 use Rattle.listed.specs.Listed.{listedOf}
-use Rattle.listed.specs.ListedLaws.{listed-event}
+use Rattle.listed.specs.laws.Listed.{listed-event}
 use Rattle.listed.specs.Output.{eventsFrom}
 use Rattle.listed.specs.Reasons.{reasonsText, reasonsPrinted}
 use Rattle.listed.specs.Steps.{TurnText, Prints, stepsFrom, steps-same}
@@ -17,5 +17,6 @@ reasonsTurn s position bytes = reasonsText (listedOf s position bytes .system) p
 reasons-prints : Prints reasonsPrinted reasonsTurn
 reasons-prints s position bytes e next f = ap (λ (l : Listed). reasonsText (l .system) position) (listed-event s position bytes e next f)
 
-pub reasons-steps : (n : ℕ) (s : System) (position at : ℕ) (bytes : List ℕ) → eventsFrom reasonsPrinted n s position at bytes ≡ stepsFrom reasonsTurn n s position at bytes
+pub reasons-steps : (n : ℕ) (s : System) (position at : ℕ) (bytes : List ℕ)
+    → eventsFrom reasonsPrinted n s position at bytes ≡ stepsFrom reasonsTurn n s position at bytes
 reasons-steps n = steps-same reasonsPrinted reasonsTurn reasons-prints n

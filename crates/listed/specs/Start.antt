@@ -4,7 +4,7 @@ use mathlib.Core.List.{List}
 use mathlib.Core.Bool.{cond}
 use lib.Dec.{ltb}
 use lib.ListN.{length}
-use Rattle.wire.specs.Record.{kindAt, left, recordAt}
+use Rattle.wire.specs.Record.{headerSize, kindAt, bytesLeft, recordAt}
 use Rattle.wire.specs.declared.kinds.Stream.the-variants as stream
 use Rattle.wire.specs.declared.record.Seen.{Seen}
 use Rattle.wire.specs.declared.record.Seen.the-variants.{Record, Refused}
@@ -13,14 +13,10 @@ use Rattle.wire.specs.declared.record.Seen.the-variants.{Record, Refused}
 abbrev pub firstEventKind : ℕ
 firstEventKind = 16
 
--- the bytes of a length and a kind
-abbrev pub header : ℕ
-header = 4
-
 -- where no table record stands at a place: the events start there if a kind of 16 or more does, whatever its length; else nowhere
 unfoldable pub splitAt : List ℕ → ℕ → ℕ
 splitAt s at =
-    cond (ltb (left s at) header) (length s) (cond (ltb (kindAt s at) firstEventKind) (length s) at)
+    cond (ltb (bytesLeft s at) headerSize) (length s) (cond (ltb (kindAt s at) firstEventKind) (length s) at)
 
 -- what the record question finds: a record, after which the table goes on, or why not
 abbrev pub onSeen : Seen → (ℕ → ℕ) → ℕ → ℕ

@@ -6,32 +6,32 @@ use Rattle.wire.specs.Kinds.{kindCores, kindGang, kindThread, kindRelease, kind
 use Rattle.wire.specs.Number.{two, four}
 
 -- "A record is a length (u16), a kind (u16), then a payload"; the "length counts kind and payload"
-abbrev bytesOf : ℕ → List ℕ → List ℕ
-bytesOf kind payload = two (2 + length payload) (two kind payload)
+abbrev recordBytes : ℕ → List ℕ → List ℕ
+recordBytes kind payload = two (2 + length payload) (two kind payload)
 
 abbrev cores : ℕ → List ℕ
-cores n = bytesOf kindCores (n ∷ [])
+cores n = recordBytes kindCores (n ∷ [])
 
 abbrev gang : ℕ → ℕ → List ℕ
-gang priority budget = bytesOf kindGang (priority ∷ four budget [])
+gang priority budget = recordBytes kindGang (priority ∷ four budget [])
 
 abbrev thread : ℕ → ℕ → List ℕ
-thread g c = bytesOf kindThread (g ∷ c ∷ [])
+thread g c = recordBytes kindThread (g ∷ c ∷ [])
 
 abbrev release : ℕ → List ℕ
-release g = bytesOf kindRelease (g ∷ [])
+release g = recordBytes kindRelease (g ∷ [])
 
 abbrev finish : ℕ → List ℕ
-finish t = bytesOf kindFinish (t ∷ [])
+finish t = recordBytes kindFinish (t ∷ [])
 
 abbrev wake : ℕ → List ℕ
-wake t = bytesOf kindWake (t ∷ [])
+wake t = recordBytes kindWake (t ∷ [])
 
 abbrev serve : ℕ → List ℕ
-serve c = bytesOf kindServe (c ∷ [])
+serve c = recordBytes kindServe (c ∷ [])
 
 abbrev traffic : ℕ → ℕ → List ℕ
-traffic c n = bytesOf kindTraffic (c ∷ four n [])
+traffic c n = recordBytes kindTraffic (c ∷ four n [])
 
 -- document 01, "Input: CORES 3; GANG 10, 100; .. WAKE 1"
 abbrev pub document01 : List ℕ

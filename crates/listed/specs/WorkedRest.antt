@@ -23,9 +23,7 @@ three room unused a b c = a ∷ b ∷ c ∷ replicate (room - 3) unused
 abbrev pub atRest : System
 atRest = record {
   table = record {
-    cores = 3;
-    gangs = 3;
-    threads = 3;
+    sizes = record { cores = 3; gangs = 3; threads = 3 };
     priority = three maxGangs 0 30 10 20;
     budget = replicate maxGangs 0;
     gang = three maxThreads 0 0 1 2;

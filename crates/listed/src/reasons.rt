@@ -23,7 +23,7 @@ pub fn list_reason(system: System, position: u32, t: u8, text: &mut [u8; THREAD_
 fn reason_line(position: u32, t: u8, reason: Reason, text: &mut [u8; THREAD_ROOM]) -> usize
     ensures { λ r. ⌜ Shown (reasonLine position t reason) (now (text .entry)) (now (text .exit)) r ⌝ }
 {
-    let which = reason::which_of(reason);
+    let which = reason::reason_which(reason);
     match reason {
         Reason::Finished => thread_line(position, t, b"finished", which, text),
         Reason::Waiting => thread_line(position, t, b"waiting", which, text),

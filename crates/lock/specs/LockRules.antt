@@ -1,15 +1,14 @@
 -- Document 01, "Well formed", of the lock: a test in named parts, one for each clause.
-use Prim.Native.Nat.{ℕ, _<_}
-use mathlib.Core.Bool.{Bool, true, false, cond, not, _&&_, and-false}
-use mathlib.Core.Path.{_≡_}
+use Prim.Native.Nat.{ℕ}
+use mathlib.Core.Bool.{Bool, cond, not, _&&_}
 use mathlib.Core.List.{List}
 use lib.Dec.{eqb, ltb}
 use lib.Bits.{bitOr}
 use lib.ListN.{getD}
 use Rattle.coreset.specs.Set.{has}
-use Rattle.ranges.specs.Range.{every, make-every, not-every}
+use Rattle.ranges.specs.Range.{every}
 use Rattle.lock.specs.declared.Lock.{Lock}
-use Rattle.ranges.specs.Logic.{implies}
+use Rattle.ranges.specs.Range.{implies}
 
 -- what the lock is held against: how many cores, threads and gangs there are, and each thread's core and gang
 pub record Pins : Type 0 where
@@ -23,12 +22,12 @@ abbrev pub pins : ℕ → ℕ → ℕ → List ℕ → List ℕ → Pins
 pins cores threads gangs core gang = record { cores = cores; threads = threads; gangs = gangs; core = core; gang = gang }
 
 -- the core that thread t is pinned to
-abbrev pub coreOf : Pins → ℕ → ℕ
-coreOf p t = getD (p .core) t 0
+abbrev pub pinCore : Pins → ℕ → ℕ
+pinCore p t = getD (p .core) t 0
 
 -- thread t's gang
-abbrev pub gangOf : Pins → ℕ → ℕ
-gangOf p t = getD (p .gang) t 0
+abbrev pub pinGang : Pins → ℕ → ℕ
+pinGang p t = getD (p .gang) t 0
 
 -- core d's occupant, 255 for none
 abbrev pub occupantOf : Lock → ℕ → ℕ
@@ -66,8 +65,8 @@ oursOk holder x t g = implies x (not (eqb t 255) && eqb g holder)
 unfoldable pub coreOk : Pins → Lock → ℕ → Bool
 coreOk p l c =
     setsOk (p .cores) c (has (named l) c)
-    && pinnedOk (p .cores) (p .threads) c (occupantOf l c) (coreOf p (occupantOf l c))
-    && oursOk (l .holder) (has (l .locked) c) (occupantOf l c) (gangOf p (occupantOf l c))
+    && pinnedOk (p .cores) (p .threads) c (occupantOf l c) (pinCore p (occupantOf l c))
+    && oursOk (l .holder) (has (l .locked) c) (occupantOf l c) (pinGang p (occupantOf l c))
 
 -- ---- all of it
 
@@ -77,40 +76,3 @@ coresOk p l = every 32 (coreOk p l)
 -- a well-formed lock
 unfoldable pub lockOk : Pins → Lock → Bool
 lockOk p l = heldOk (p .gangs) (l .holder) (l .locked) && idleOk (l .holder) (l .blocked) && coresOk p l
-
--- ---- what each clause that fails comes to, and all that hold: core c with the occupant t
-
-module _ (p : Pins) (l : Lock) (c t : ℕ) (e : t ≡ occupantOf l c) where
-  pub core-not-named : setsOk (p .cores) c (has (named l) c) ≡ false → coreOk p l c ≡ false
-  unfolding coreOk
-  core-not-named f = rw f
-
-  pub core-not-pinned : pinnedOk (p .cores) (p .threads) c t (coreOf p t) ≡ false → coreOk p l c ≡ false
-  unfolding coreOk
-  core-not-pinned f = rw (← e, f, and-false (setsOk (p .cores) c (has (named l) c)))
-
-  pub core-not-ours : oursOk (l .holder) (has (l .locked) c) t (gangOf p t) ≡ false → coreOk p l c ≡ false
-  unfolding coreOk
-  core-not-ours f = rw (← e, f, and-false _)
-
-  pub core-all : setsOk (p .cores) c (has (named l) c) ≡ true → pinnedOk (p .cores) (p .threads) c t (coreOf p t) ≡ true
-      → oursOk (l .holder) (has (l .locked) c) t (gangOf p t) ≡ true → coreOk p l c ≡ true
-  unfolding coreOk
-  core-all f g h = rw (← e, f, g, h)
-
-module _ (p : Pins) (l : Lock) where
-  pub lock-not-held : heldOk (p .gangs) (l .holder) (l .locked) ≡ false → lockOk p l ≡ false
-  unfolding lockOk
-  lock-not-held e = rw e
-
-  pub lock-not-idle : idleOk (l .holder) (l .blocked) ≡ false → lockOk p l ≡ false
-  unfolding lockOk
-  lock-not-idle e = rw (e, and-false (heldOk (p .gangs) (l .holder) (l .locked)))
-
-  pub lock-not-core : (c : ℕ) → c < 32 → coreOk p l c ≡ false → lockOk p l ≡ false
-  unfolding lockOk coresOk
-  lock-not-core c h e = rw (not-every 32 (coreOk p l) c h e) (and-false (heldOk (p .gangs) (l .holder) (l .locked) && idleOk (l .holder) (l .blocked)))
-
-  pub lock-all : heldOk (p .gangs) (l .holder) (l .locked) ≡ true → idleOk (l .holder) (l .blocked) ≡ true → ((c : ℕ) → c < 32 → coreOk p l c ≡ true) → lockOk p l ≡ true
-  unfolding lockOk coresOk
-  lock-all h i e = rw (h, i, make-every 32 (coreOk p l) e)

@@ -9,10 +9,6 @@ use Rattle.coreset.specs.Set.{withCore, withoutCore, withinWidth}
 use Rattle.lock.specs.declared.Held.{Held}
 use Rattle.lock.specs.declared.Lock.{Lock}
 
--- the holder and the core sets
-abbrev pub heldOf : (holder locked blocked owing : ℕ) → Held
-heldOf holder locked blocked owing = record { holder = holder; locked = locked; blocked = blocked; owing = owing }
-
 -- the lock of a holder and core sets, and of the occupants
 abbrev pub lockOf : Held → List ℕ → Lock
 lockOf h o = record { holder = h .holder; locked = h .locked; blocked = h .blocked; owing = h .owing; occupant = o }
@@ -21,21 +17,19 @@ lockOf h o = record { holder = h .holder; locked = h .locked; blocked = h .block
 abbrev pub freeLock : Lock
 freeLock = record { holder = 255; locked = 0; blocked = 0; owing = 0; occupant = replicate 32 255 }
 
+-- the lock with other owing cores
+abbrev pub withOwing : Lock → ℕ → Lock
+withOwing l m = record { holder = l .holder; locked = l .locked; blocked = l .blocked; owing = m; occupant = l .occupant }
+
 -- "its core owes", or "their cores owe": core c is one of them; past the 32 cores there is none
 abbrev pub oweOf : Lock → ℕ → Lock
-oweOf l c = record {
-  holder = l .holder;
-  locked = l .locked;
-  blocked = l .blocked;
-  owing = withinWidth 32 (l .owing) c;
-  occupant = l .occupant;
-}
+oweOf l c = withOwing l (withinWidth 32 (l .owing) c)
 
 -- ---- step (a)
 
 -- "c no longer owes and is no longer blocked"
-abbrev pub answeredOf : Lock → ℕ → Lock
-answeredOf l c = record {
+abbrev pub unmarkedOf : Lock → ℕ → Lock
+unmarkedOf l c = record {
   holder = l .holder;
   locked = l .locked;
   blocked = withoutCore (l .blocked) c;
@@ -69,15 +63,15 @@ freedOf l = record {
 unfoldable pub settledOf : Lock → Lock
 settledOf l = cond (eqb (l .locked) 0) (freedOf l) l
 
--- step (b), whole
-unfoldable pub leftOf : Lock → ℕ → Lock
-leftOf l c = settledOf (vacatedOf l c)
+-- step (b), whole: c gives up the lock, whatever its first ready thread t, or 255, and that thread's gang g
+unfoldable pub leftOf : Lock → ℕ → ℕ → ℕ → Lock
+leftOf l c t g = settledOf (vacatedOf l c)
 
 -- ---- step (c)
 
 -- "its gang holds it, c is locked, the thread is occupant": thread t of gang g
-abbrev pub takenOf : Lock → ℕ → ℕ → ℕ → Lock
-takenOf l c t g = record {
+abbrev pub lockedFor : Lock → ℕ → ℕ → ℕ → Lock
+lockedFor l c t g = record {
   holder = g;
   locked = withCore (l .locked) c;
   blocked = l .blocked;
@@ -108,24 +102,23 @@ blockedOf l c = record {
 -- "Lock free", "Same gang", "Higher priority than the holder", "Lower", for thread t of gang g, which is ahead of the holder where a
 unfoldable pub claimedOf : Lock → ℕ → ℕ → ℕ → Bool → Lock
 claimedOf l c t g a =
-    cond (eqb (l .holder) 255) (takenOf l c t g)
-    (cond (eqb (l .holder) g) (takenOf l c t g)
-    (cond a (takenOf (displacedOf l) c t g)
+    cond (eqb (l .holder) 255) (lockedFor l c t g)
+    (cond (eqb (l .holder) g) (lockedFor l c t g)
+    (cond a (lockedFor (displacedOf l) c t g)
     (blockedOf l c)))
 
 -- "Take c's first ready thread", t. "None: done"
 unfoldable pub admittedOf : Lock → ℕ → ℕ → ℕ → Bool → Lock
 admittedOf l c t g a = cond (eqb t 255) l (claimedOf l c t g a)
 
--- ---- the three steps
+-- ---- the three steps, where t is c's first ready thread, or 255, and g its gang
 
--- SERVE c, where c's first ready thread t, its gang g, and whether g is ahead of the holder are handed in; past the 32 cores there is none to serve
+-- SERVE c, where `ahead h` says whether g is ahead of gang h: step (c) asks for the holder that (b) leaves
+unfoldable pub serveBy : (ℕ → Bool) → Lock → ℕ → ℕ → ℕ → Lock
+serveBy ahead l c t g =
+    let m = leftOf (unmarkedOf l c) c t g in
+    admittedOf m c t g (ahead (m .holder))
+
+-- SERVE c, where a says whether g is ahead of the holder; past the 32 cores there is none to serve
 unfoldable pub serveOf : Lock → ℕ → ℕ → ℕ → Bool → Lock
-serveOf l c t g a = cond (ltb c 32) (admittedOf (leftOf (answeredOf l c) c) c t g a) l
-
--- SERVE c, where the order of gangs, each thread's gang and each core's first ready thread are given: step (c) asks for the holder that (b) leaves
-unfoldable pub servedOf : (ℕ → ℕ → Bool) → (ℕ → ℕ) → (ℕ → ℕ) → Lock → ℕ → Lock
-servedOf higher gang first l c =
-    let m = leftOf (answeredOf l c) c in
-    let g = gang (first c) in
-    admittedOf m c (first c) g (higher g (m .holder))
+serveOf l c t g a = cond (ltb c 32) (serveBy (λ (h : ℕ). a) l c t g) l

@@ -3,7 +3,7 @@ use Prim.Native.Nat.{ℕ, _<_}
 use mathlib.Core.Bool.{Bool, true, false}
 use mathlib.Core.Path.{_≡_}
 use Rattle.lock.specs.declared.Lock.{Lock}
-use Rattle.lock.specs.Serve.{servedOf}
+use Rattle.lock.specs.Serve.{serveBy}
 
 -- an order of gangs: of any two gangs of the table exactly one is ahead
 pub record Order (gangs : ℕ) (higher : ℕ → ℕ → Bool) : Type 0 where
@@ -31,4 +31,4 @@ firstGang W d = W .gang (W .first d)
 
 -- SERVE core c in the world W
 abbrev pub serve : World → Lock → ℕ → Lock
-serve W l c = servedOf (W .higher) (W .gang) (W .first) l c
+serve W l c = serveBy (W .higher (firstGang W c)) l c (W .first c) (firstGang W c)

@@ -1,8 +1,10 @@
-// The gang lock, and SERVE on it. It knows no table: who is first on a core, of which gang, and whether that gang is ahead of the holder, is handed in.
+// The gang lock, and SERVE on it. It knows no table: who is first on a core, of which gang, and whether that gang is ahead of the holder,
+// is handed in.
 ghost use mathlib.Core.Path.{_≡_};
 ghost use mathlib.Core.List.{List};
 ghost use Prim.Native.Nat.{ℕ, _<_};
-ghost use Rattle.lock.specs.Serve.{freeLock, lockOf, answeredOf, freedOf, vacatedOf, settledOf, leftOf, takenOf, displacedOf, blockedOf, claimedOf, admittedOf, serveOf, oweOf};
+ghost use Rattle.lock.specs.Serve.{freeLock, lockOf, oweOf, unmarkedOf, vacatedOf, freedOf, settledOf, leftOf};
+ghost use Rattle.lock.specs.Serve.{lockedFor, displacedOf, blockedOf, claimedOf, admittedOf, serveOf};
 
 mod rules;
 
@@ -19,6 +21,7 @@ pub struct Lock {
 }
 
 // A lock but for the occupants: what an event takes and hands back, while the occupants are lent.
+#[repr(C)]
 pub struct Held {
     pub holder: u8,
     pub locked: u32,
@@ -72,7 +75,7 @@ impl Held {
         ensures { λ r. ⌜ lockOf r (now (occupant .exit)) ≡ serveOf (lockOf self (now (occupant .entry))) c t g ahead ⌝ }
     {
         if c < coreset::WIDTH {
-            let left = self.answered(c).left(occupant, c);
+            let left = self.unmarked(c).left(occupant, c, t, g);
             left.admitted(occupant, c, t, g, ahead)
         } else {
             self
@@ -88,18 +91,18 @@ impl Held {
     }
 
     // Step (a): c no longer owes and is no longer blocked.
-    fn answered(mut self, c: u8) -> Held
-        ensures { λ r. ⌜ ((o : List ℕ) → lockOf r o ≡ answeredOf (lockOf self o) c) ⌝ }
+    fn unmarked(mut self, c: u8) -> Held
+        ensures { λ r. ⌜ ((o : List ℕ) → lockOf r o ≡ unmarkedOf (lockOf self o) c) ⌝ }
     {
         self.owing = coreset::clear(self.owing, c);
         self.blocked = coreset::clear(self.blocked, c);
         self
     }
 
-    // Step (b): c gives up the lock, and where it was the last the lock is free.
-    fn left(self, occupant: &mut [u8; 32], c: u8) -> Held
+    // Step (b): c gives up the lock, whatever its first ready thread t and that thread's gang g; where it was the last the lock is free.
+    fn left(self, occupant: &mut [u8; 32], c: u8, t: u8, g: u8) -> Held
         requires { ⌜ c < 32 ⌝ }
-        ensures { λ r. ⌜ lockOf r (now (occupant .exit)) ≡ leftOf (lockOf self (now (occupant .entry))) c ⌝ }
+        ensures { λ r. ⌜ lockOf r (now (occupant .exit)) ≡ leftOf (lockOf self (now (occupant .entry))) c t g ⌝ }
     {
         self.vacated(occupant, c).settled()
     }
@@ -150,22 +153,22 @@ impl Held {
         ensures { λ r. ⌜ lockOf r (now (occupant .exit)) ≡ claimedOf (lockOf self (now (occupant .entry))) c t g ahead ⌝ }
     {
         if self.holder == coreset::NONE {
-            return self.taken(occupant, c, t, g);
+            return self.lock_for(occupant, c, t, g);
         }
         if self.holder == g {
-            return self.taken(occupant, c, t, g);
+            return self.lock_for(occupant, c, t, g);
         }
         if ahead {
-            self.displaced().taken(occupant, c, t, g)
+            self.displaced().lock_for(occupant, c, t, g)
         } else {
             self.block(c)
         }
     }
 
     // Gang g holds the lock, c is locked, thread t is its occupant.
-    fn taken(mut self, occupant: &mut [u8; 32], c: u8, t: u8, g: u8) -> Held
+    fn lock_for(mut self, occupant: &mut [u8; 32], c: u8, t: u8, g: u8) -> Held
         requires { ⌜ c < 32 ⌝ }
-        ensures { λ r. ⌜ lockOf r (now (occupant .exit)) ≡ takenOf (lockOf self (now (occupant .entry))) c t g ⌝ }
+        ensures { λ r. ⌜ lockOf r (now (occupant .exit)) ≡ lockedFor (lockOf self (now (occupant .entry))) c t g ⌝ }
     {
         let at = c as usize;
         self.holder = g;

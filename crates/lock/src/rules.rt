@@ -1,25 +1,27 @@
 // What document 01's "Well formed" asks of the lock, clause by clause: first of the whole lock, then of one core.
 ghost use mathlib.Core.Path.{_≡_};
-ghost use lib.ListN.{getD};
-ghost use Rattle.lock.specs.Serve.{heldOf, lockOf};
+ghost use Rattle.lock.specs.Serve.{lockOf};
 ghost use Rattle.lock.specs.LockRules.{pins, heldOk, idleOk, setsOk, pinnedOk, oursOk, lockOk};
+use crate::Held;
+use lists::at;
+use lists::at_or;
 
 // Held exactly when a core is locked, by one of the gangs.
-fn held_ok(gangs: u8, holder: u8, locked: u32) -> bool
-    ensures { λ r. ⌜ r ≡ heldOk gangs holder locked ⌝ }
+fn held_ok(held: Held, gangs: u8) -> bool
+    ensures { λ r. ⌜ r ≡ heldOk gangs (held .holder) (held .locked) ⌝ }
 {
-    if holder == coreset::NONE {
-        return locked == 0;
+    if held.holder == coreset::NONE {
+        return held.locked == 0;
     }
-    locked != 0 && holder < gangs
+    held.locked != 0 && held.holder < gangs
 }
 
 // No core blocked while the lock is free.
-fn idle_ok(holder: u8, blocked: u32) -> bool
-    ensures { λ r. ⌜ r ≡ idleOk holder blocked ⌝ }
+fn idle_ok(held: Held) -> bool
+    ensures { λ r. ⌜ r ≡ idleOk (held .holder) (held .blocked) ⌝ }
 {
-    if holder == coreset::NONE {
-        return blocked == 0;
+    if held.holder == coreset::NONE {
+        return held.blocked == 0;
     }
     true
 }
@@ -51,20 +53,9 @@ fn ours_ok(holder: u8, locked: bool, t: u8, g: u8) -> bool
     true
 }
 
-// What stands at place i, and `past` past the last place: so that no reader needs a bound.
-fn at(xs: &[u8], i: u8, past: u8) -> u8
-    ensures { λ r. ⌜ r ≡ getD (now (xs .entry)) i past ⌝ }
-{
-    let i = i as usize;
-    if i < xs.len() { xs[i] } else { past }
-}
-
-// Whether the lock of these parts is well formed, against how many cores, threads and gangs there are, and each thread's core and gang.
+// Whether this lock is well formed, against how many cores, threads and gangs there are, and each thread's core and gang.
 pub fn lock_ok<'a>(
-    holder: u8,
-    locked: u32,
-    blocked: u32,
-    owing: u32,
+    held: Held,
     occupant: &'a [u8; 32],
     cores: u8,
     threads: u8,
@@ -72,24 +63,24 @@ pub fn lock_ok<'a>(
     core: &'a [u8; 128],
     gang: &'a [u8; 128],
 ) -> bool
-    ensures { λ r. ⌜ r ≡ lockOk (pins cores threads gangs (now (core .entry)) (now (gang .entry))) (lockOf (heldOf holder locked blocked owing) (now (occupant .entry))) ⌝ }
+    ensures { λ r. ⌜ r ≡ lockOk (pins cores threads gangs (now (core .entry)) (now (gang .entry))) (lockOf held (now (occupant .entry))) ⌝ }
 {
-    if !held_ok(gangs, holder, locked) {
+    if !held_ok(held, gangs) {
         return false;
     }
-    if !idle_ok(holder, blocked) {
+    if !idle_ok(held) {
         return false;
     }
-    let named = locked | blocked | owing;
+    let named = held.locked | held.blocked | held.owing;
     for c in 0..coreset::WIDTH {
-        let t = at(occupant, c, coreset::NONE);
+        let t = at_or(occupant, c, coreset::NONE);
         if !sets_ok(cores, c, coreset::test(named, c)) {
             return false;
         }
-        if !pinned_ok(cores, threads, c, t, at(core, t, 0)) {
+        if !pinned_ok(cores, threads, c, t, at(core, t)) {
             return false;
         }
-        if !ours_ok(holder, coreset::test(locked, c), t, at(gang, t, 0)) {
+        if !ours_ok(held.holder, coreset::test(held.locked, c), t, at(gang, t)) {
             return false;
         }
     }

@@ -1,2 +1,2 @@
 pub mod Pick
-pub mod Cases
+pub mod laws

@@ -1,41 +1,41 @@
--- The kept count "is kept as the smaller of 1,000,000 and the true sum since the last TICK, which changes no stop": at every reached state, against the history of the way to it.
+-- The kept count "is kept as the smaller of 1,000,000 and the true sum since the last TICK, which changes no stop": at every reached state,
+-- against the history of the way to it.
 use Prim.Native.Nat.{ℕ, _+_, min}
 use mathlib.Core.Bool.{Bool, true, false, and-false}
 use mathlib.Core.Path.{_≡_, refl, ap, _∙_}
 use mathlib.Core.List.{List, [], _∷_, _++_}
 use native.Mathlib.Omega.{arith}
 use borrow.Author.Tests.{le-leb, eq-eqb, ne-eqb}
-use Rattle.ranges.specs.Lists.{same-throughout}
-use Rattle.state.specs.Allowance.{holderBudget, stoppedAt}
+use Rattle.lists.specs.laws.Lists.{same-throughout}
+use Rattle.state.specs.Allowance.{stoppedAt}
 use Rattle.table.specs.declared.Table.{Table}
 use Rattle.table.specs.Numbers.{maxCores}
-use Rattle.table.specs.Rules.{budgetOf}
 use Rattle.wire.specs.declared.answer.Answer.{Answer}
 use Rattle.wire.specs.declared.answer.Answer.the-variants.{Counted}
 use Rattle.wire.specs.declared.event.Event.{Event}
 use Rattle.wire.specs.declared.event.Event.the-variants as event
 use Rattle.system.specs.declared.System.{System}
 use Rattle.system.specs.System.{freshSystem, keptIn, occupantIn}
-use Rattle.system.specs.Stop.{stopped}
+use Rattle.system.specs.Stop.{budgetIn, stopped}
 use Rattle.system.specs.Events.{stepOf, applyOf}
-use Rattle.system.specs.WellFormedLaws.{formed-well}
-use Rattle.system.specs.Applied.{apply-well}
+use Rattle.effects.specs.WellFormedLaws.{formed-well}
+use Rattle.effects.specs.Applied.{apply-well}
 use Rattle.reached.specs.Reached.{Accepted, after}
 use Rattle.reached.specs.History.{entryOf, history}
-use Rattle.reached.specs.Runs.{start-shaped, start-formed, run-formed, after-append, entry-next}
+use Rattle.reached.specs.laws.Runs.{start-shaped, start-formed, run-formed, after-append, entry-next}
 use Rattle.reached.specs.TrueSum.{trueSum, trulyStopped}
-use Rattle.reached.specs.Sums.{sum-is, sum-after, run-keeps, stops-alike, counted-tells}
+use Rattle.reached.specs.laws.Sums.{sum-is, sum-after, run-keeps, stops-alike, counted-tells}
 
 -- ---- by the kept count, of any system whatever
 
 module _ (s : System) (c : ℕ) where
   -- "Budget 0 stops it always"
-  pub budget-zero-stops : occupantIn s c ≡ 255 → (s .lock .holder ≡ 255 → ⊥) → budgetOf (s .table .budget) (s .lock .holder) ≡ 0 → stopped s c ≡ true
-  unfolding stoppedAt holderBudget
+  pub budget-zero-stops : occupantIn s c ≡ 255 → (s .lock .holder ≡ 255 → ⊥) → budgetIn s ≡ 0 → stopped s c ≡ true
+  unfolding stoppedAt
   budget-zero-stops idle held none = rw (
     eq-eqb (occupantIn s c) 255 idle,
     ne-eqb (s .lock .holder) 255 held,
-    le-leb (budgetOf (s .table .budget) (s .lock .holder)) (keptIn s c) (omega arith),
+    le-leb (budgetIn s) (keptIn s c) (omega arith),
   )
 
   -- "A free lock stops nobody"
@@ -62,7 +62,8 @@ module _ (b : Table) (a : Accepted b) (c : ℕ) where
 
   -- an accepted TRAFFIC: its answer's value and number are by the true sum after it
   pub traffic-tells : (before : List Event) (n : ℕ) (stop : Bool) (count : ℕ) → trafficAfter b before c n ≡ Counted stop count
-      → (stop ≡ trulyStopped (after (freshSystem b) (before ++ (event.Traffic c n ∷ []))) (history (freshSystem b) (before ++ (event.Traffic c n ∷ []))) c)
+      → (stop ≡ trulyStopped (after (freshSystem b) (before ++ (event.Traffic c n ∷ [])))
+      (history (freshSystem b) (before ++ (event.Traffic c n ∷ []))) c)
       × (count ≡ min 1000000 (trueSum c (history (freshSystem b) (before ++ (event.Traffic c n ∷ [])))))
   unfolding after
   traffic-tells before n stop count q =

@@ -5,17 +5,17 @@ use mathlib.Core.Path.{_≡_, refl, sym, ap, _∙_, subst}
 use mathlib.Core.Logic.{_⊎_, inl, inr}
 use native.Mathlib.Decide.{ℕ-discrete}
 use Rattle.coreset.specs.Set.{has}
-use Rattle.ranges.specs.Logic.{clash}
-use Rattle.lock.specs.Rest.{rest-unique}
-use Rattle.lock.specs.Shape.{Shape, rest-shape}
-use Rattle.state.specs.ThreadsLaws.{make-running}
-use Rattle.table.specs.OrderLaws.{ahead-trans}
+use Rattle.ranges.specs.laws.Logic.{clash}
+use Rattle.lock.specs.laws.AtRest.{rest-unique}
+use Rattle.lock.specs.laws.Shape.{Shape, rest-shape}
+use Rattle.state.specs.laws.Threads.{make-running}
+use Rattle.table.specs.laws.Order.{ahead-trans}
 use Rattle.system.specs.declared.System.{System}
-use Rattle.system.specs.System.{coreIn, gangIn, occupantIn, firstIn, aheadIn}
-use Rattle.system.specs.Standing.{Locked}
+use Rattle.system.specs.System.{coreIn, gangIn, occupantIn, firstIn, aheadIn, lineupIn}
+use Rattle.effects.specs.Standing.{Locked}
 use Rattle.reached.specs.Reached.{Accepted, Reached}
 use Rattle.reached.specs.Formed.{reached-accepted}
-use Rattle.reached.specs.First.{ReadyThread, HasFirst, firstGangIn, first-is-ready, first-pinned, ready-first, none-first, first-not-behind}
+use Rattle.reached.specs.First.{ReadyThread, HasFirst, firstGangIn, first-is-ready, first-pinned, ready-has-first, none-first, first-not-behind}
 use Rattle.reached.specs.WorldOf.{worldOf}
 use Rattle.reached.specs.GoodReached.{GoodLock, reached-lock, reached-good}
 use Rattle.reached.specs.EveryState.{Runs, running-occupies}
@@ -50,12 +50,12 @@ module _ {s : System} (R : Reached s) (none : NoneOwes s) where
 
   -- where some thread is ready the lock is held,
   pub rest-held : (t : ℕ) → ReadyThread s t → s .lock .holder ≡ 255 → ⊥
-  rest-held t r = shape .held (coreIn s t) (ready-first s a (coreIn s t) t r refl)
+  rest-held t r = shape .held (coreIn s t) (ready-has-first s a (coreIn s t) t r refl)
 
   -- by a gang that has a ready thread,
   pub rest-holder-ready : (t : ℕ) → ReadyThread s t → HasReady s (s .lock .holder)
   rest-holder-ready t r =
-      let w = shape .by-ready (coreIn s t) (ready-first s a (coreIn s t) t r refl) in
+      let w = shape .by-ready (coreIn s t) (ready-has-first s a (coreIn s t) t r refl) in
       record { thread = firstIn s (w .core); is-ready = first-is-ready s a (w .core) (w .ready); its-gang = w .its-gang }
 
   -- every ready thread is of that gang, or of one behind it, by way of its core's first ready thread
@@ -66,17 +66,19 @@ module _ {s : System} (R : Reached s) (none : NoneOwes s) where
       k = firstGangIn s (coreIn s t)
 
       past : (k ≡ s .lock .holder → ⊥) → aheadIn s (s .lock .holder) k ≡ true
-      past f = shape .by-highest (coreIn s t) (ready-first s a (coreIn s t) t r refl) f
+      past f = shape .by-highest (coreIn s t) (ready-has-first s a (coreIn s t) t r refl) f
 
       go : (gangIn s t ≡ k) ⊎ (aheadIn s k (gangIn s t) ≡ true) → Dec (k ≡ s .lock .holder) → aheadIn s (s .lock .holder) (gangIn s t) ≡ true
       go (inl e) (yes f) = absurd (ne (e ∙ f))
       go (inl e) (no f) = ap (aheadIn s (s .lock .holder)) e ∙ past f
       go (inr b) (yes f) = ap (λ (g : ℕ). aheadIn s g (gangIn s t)) (sym f) ∙ b
-      go (inr b) (no f) = ahead-trans (s .table .priority) (s .lock .holder) k (gangIn s t) (past f) b
+      go (inr b) (no f) = ahead-trans (lineupIn s) (s .lock .holder) k (gangIn s t) (past f) b
 
   -- which is ahead of every other gang that has one
   pub rest-holder-highest : (g : ℕ) → HasReady s g → (g ≡ s .lock .holder → ⊥) → aheadIn s (s .lock .holder) g ≡ true
-  rest-holder-highest g w ne = subst (λ (k : ℕ). aheadIn s (s .lock .holder) k ≡ true) (w .its-gang) (behind (w .thread) (w .is-ready) (λ e. ne (sym (w .its-gang) ∙ e)))
+  rest-holder-highest g w ne =
+      subst (λ (k : ℕ). aheadIn s (s .lock .holder) k ≡ true) (w .its-gang)
+      (behind (w .thread) (w .is-ready) (λ e. ne (sym (w .its-gang) ∙ e)))
 
   -- ---- each core whose first ready thread is that gang's runs it
 
@@ -115,7 +117,9 @@ module _ {s : System} (R : Reached s) (none : NoneOwes s) where
   pub rest-free-empty : NoneReady s → (d : ℕ) → occupantIn s d ≡ 255
   rest-free-empty n d = rest-empty d (λ f. n (firstIn s d) (first-is-ready s a d (f .0))) .1
 
--- ---- the ready threads give all of it: of two systems at rest with one table and the same threads' states, by whatever events they came there, the locks are the same
+-- ---- the ready threads give all of it
+
+-- of two systems at rest with one table and the same threads' states, by whatever events they came there, the locks are the same
 
 pub rest-given : {s r : System} → Reached s → Reached r → r .table ≡ s .table → r .state ≡ s .state → NoneOwes s → NoneOwes r → r .lock ≡ s .lock
 rest-given {s} {r} R Q p q e f =

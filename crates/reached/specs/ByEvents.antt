@@ -1,5 +1,6 @@
--- From a reached state every event leads to a reached state; so what holds of each fresh system, and is kept by every event, holds of every reached state.
-use mathlib.Core.Path.{_≡_, refl, ap, _∙_, subst}
+-- From a reached state every event leads to a reached state; so what holds of each fresh system, and is kept by every event, holds of every
+-- reached state.
+use mathlib.Core.Path.{refl, ap, _∙_, subst}
 use mathlib.Core.List.{List, [], _∷_, _++_}
 use Rattle.table.specs.declared.Table.{Table}
 use Rattle.wire.specs.declared.event.Event.{Event}
@@ -7,7 +8,7 @@ use Rattle.system.specs.declared.System.{System}
 use Rattle.system.specs.System.{freshSystem}
 use Rattle.system.specs.Events.{applyOf}
 use Rattle.reached.specs.Reached.{Accepted, after, Reached}
-use Rattle.reached.specs.Runs.{after-append}
+use Rattle.reached.specs.laws.Runs.{after-append}
 
 pub fresh-reached : (b : Table) → Accepted b → Reached (freshSystem b)
 unfolding after

@@ -1,4 +1,5 @@
--- Document 01, "At every reached state": the lock is held exactly when some core is locked; a locked core's occupant is the holder's; a core with an occupant that isn't locked owes.
+-- Document 01, "At every reached state": the lock is held exactly when some core is locked; a locked core's occupant is the holder's; a core with
+-- an occupant that isn't locked owes.
 -- "Two gangs can therefore overlap only on owing cores."
 use Prim.Native.Nat.{ℕ, _<_}
 use mathlib.Core.Bool.{Bool, true, false}
@@ -7,13 +8,13 @@ use mathlib.Core.Logic.{_⊎_, inl, inr, ⊎-elim, _↔_}
 use native.Mathlib.Decide.{decLt}
 use native.Mathlib.Omega.{arith}
 use Rattle.coreset.specs.Set.{has}
-use Rattle.lock.specs.Occupants.{occupied-owes}
-use Rattle.ranges.specs.Logic.{clash, is-false}
+use Rattle.lock.specs.laws.Good.{occupied-owes}
+use Rattle.ranges.specs.laws.Logic.{clash, is-false}
 use Rattle.table.specs.Numbers.{ready}
-use Rattle.state.specs.ThreadsLaws.{running-is}
+use Rattle.state.specs.laws.Threads.{running-is}
 use Rattle.system.specs.declared.System.{System}
 use Rattle.system.specs.System.{stateIn, coreIn, gangIn, occupantIn, running}
-use Rattle.system.specs.Standing.{Locked, held-exactly, locked-occupied, locked-holders}
+use Rattle.effects.specs.Standing.{Locked, held-exactly, locked-occupied, locked-holders}
 use Rattle.reached.specs.Reached.{Reached}
 use Rattle.reached.specs.Formed.{reached-formed, reached-accepted, reached-threads}
 use Rattle.reached.specs.First.{ReadyThread}
@@ -47,14 +48,14 @@ module _ {s : System} (R : Reached s) where
 
   -- "A thread is running when it is its core's occupant and is ready"
   pub running-ready : (t : ℕ) → Runs s t → ReadyThread s t
-  running-ready t r = (inside (decLt t (s .table .threads)), e)
+  running-ready t r = (inside (decLt t (s .table .sizes .threads)), e)
     where
       e : stateIn s t ≡ ready
       e = running-is (s .state) (s .table .core) (s .lock .occupant) t r .0
 
-      inside : Dec (t < s .table .threads) → t < s .table .threads
+      inside : Dec (t < s .table .sizes .threads) → t < s .table .sizes .threads
       inside (yes l) = l
-      inside (no l) = let z = reached-formed R .states-unused t (omega arith) in let k = e in absurd (omega arith)
+      inside (no l) = let z = reached-formed R .states .unused t (omega arith) in let k = e in absurd (omega arith)
 
   pub running-occupant : (t : ℕ) → Runs s t → occupantIn s (coreIn s t) ≡ t
   running-occupant t r = running-is (s .state) (s .table .core) (s .lock .occupant) t r .1

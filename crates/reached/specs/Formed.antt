@@ -1,32 +1,29 @@
 -- Every reached state is well formed, and its table is the accepted one.
-use Prim.Native.Nat.{ℕ, _≤_}
+use Prim.Native.Nat.{_≤_}
 use mathlib.Core.Bool.{true}
 use mathlib.Core.Path.{_≡_, refl, sym, ap, _∙_, subst}
 use native.Mathlib.Omega.{arith}
 use Rattle.table.specs.declared.Table.{Table}
 use Rattle.table.specs.Numbers.{maxCores, maxGangs, maxThreads}
-use Rattle.table.specs.Parts.{Sizes, empty, filled}
-use Rattle.table.specs.TableLaws.{cores-room, gangs-room, threads-room}
-use Rattle.table.specs.TableOk.{TableOk, table-ok}
+use Rattle.table.specs.declared.Sizes.{Sizes}
+use Rattle.table.specs.laws.Table.{cores-room, gangs-room, threads-room}
+use Rattle.table.specs.TableOk.{TableOk, RightSizes, empty, filled}
+use Rattle.table.specs.laws.Ok.{table-ok}
 use Rattle.wire.specs.declared.event.Event.{Event}
 use Rattle.system.specs.declared.System.{System}
 use Rattle.system.specs.declared.events.Reply.{Reply}
 use Rattle.system.specs.System.{freshSystem}
 use Rattle.system.specs.Events.{stepOf, applyOf}
-use Rattle.system.specs.Shaped.{Shaped}
 use Rattle.system.specs.WellFormed.{wellFormed}
-use Rattle.system.specs.WellFormedLaws.{WellFormed, formed-well}
-use Rattle.system.specs.Leaves.{table-same}
-use Rattle.system.specs.Applied.{apply-well}
+use Rattle.effects.specs.Facts.{WellFormed}
+use Rattle.effects.specs.WellFormedLaws.{formed-well}
+use Rattle.effects.specs.Leaves.{table-same}
+use Rattle.effects.specs.Applied.{apply-well}
 use Rattle.reached.specs.Reached.{Accepted, Reached}
 use Rattle.reached.specs.ByEvents.{fresh-reached, kept-after}
-use Rattle.reached.specs.Runs.{run-shaped, run-formed}
+use Rattle.reached.specs.laws.Runs.{run-formed}
 
 -- ---- well formed
-
--- each list has its places, and the numbers fit
-pub reached-shaped : {s : System} → Reached s → Shaped s
-reached-shaped R = subst Shaped (R .reaches) (run-shaped (R .table) (R .accepted) (R .events))
 
 -- "Well formed", as facts
 pub reached-formed : {s : System} → Reached s → WellFormed s
@@ -57,29 +54,23 @@ pub reached-accepted : {s : System} → Reached s → Accepted (s .table)
 reached-accepted R = subst Accepted (sym (reached-table R)) (R .accepted)
 
 -- "1 to 32 cores, 1 to 32 gangs, room for 128 threads"
-some-gang : {c g t : ℕ} → Sizes c g t → 1 ≤ c → 1 ≤ g
+some-gang : {n : Sizes} → RightSizes n → 1 ≤ n .cores → 1 ≤ n .gangs
 some-gang (empty p q r) l = absurd (omega arith)
 some-gang (filled p q r s u) l = r
 
 module _ (b : Table) (a : Accepted b) where
-  pub accepted-ok : TableOk b
-  accepted-ok = table-ok b (a .rules)
+  pub accepted-table-ok : TableOk b
+  accepted-table-ok = table-ok b (a .rules)
 
-  pub accepted-cores : (1 ≤ b .cores) × (b .cores ≤ maxCores)
-  accepted-cores = (a .filled, cores-room b accepted-ok)
+  pub accepted-cores : (1 ≤ b .sizes .cores) × (b .sizes .cores ≤ maxCores)
+  accepted-cores = (a .filled, cores-room b accepted-table-ok)
 
-  pub accepted-gangs : (1 ≤ b .gangs) × (b .gangs ≤ maxGangs)
-  accepted-gangs = (some-gang (accepted-ok .sizes) (a .filled), gangs-room b accepted-ok)
+  pub accepted-gangs : (1 ≤ b .sizes .gangs) × (b .sizes .gangs ≤ maxGangs)
+  accepted-gangs = (some-gang (accepted-table-ok .sizes) (a .filled), gangs-room b accepted-table-ok)
 
-  pub accepted-threads : b .threads ≤ maxThreads
-  accepted-threads = threads-room b accepted-ok
+  pub accepted-threads : b .sizes .threads ≤ maxThreads
+  accepted-threads = threads-room b accepted-table-ok
 
 module _ {s : System} (R : Reached s) where
-  pub reached-cores : (1 ≤ s .table .cores) × (s .table .cores ≤ maxCores)
-  reached-cores = accepted-cores (s .table) (reached-accepted R)
-
-  pub reached-gangs : (1 ≤ s .table .gangs) × (s .table .gangs ≤ maxGangs)
-  reached-gangs = accepted-gangs (s .table) (reached-accepted R)
-
-  pub reached-threads : s .table .threads ≤ maxThreads
+  pub reached-threads : s .table .sizes .threads ≤ maxThreads
   reached-threads = accepted-threads (s .table) (reached-accepted R)

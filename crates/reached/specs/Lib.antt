@@ -1,13 +1,10 @@
 pub mod Reached
 pub mod History
-pub mod Runs
 pub mod ByEvents
 pub mod Read
 pub mod Formed
-pub mod Tallies
 pub mod Releases
 pub mod TrueSum
-pub mod Sums
 pub mod Allowed
 pub mod First
 pub mod WorldOf
@@ -17,3 +14,4 @@ pub mod Services
 pub mod Demand3
 pub mod AtRest
 pub mod NeverNone
+pub mod laws

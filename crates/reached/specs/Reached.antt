@@ -9,12 +9,12 @@ use Rattle.wire.specs.declared.event.Event.{Event}
 use Rattle.system.specs.declared.System.{System}
 use Rattle.system.specs.System.{freshSystem}
 use Rattle.system.specs.Events.{applyOf}
-use Rattle.system.specs.Shaped.{TableShaped}
+use Rattle.effects.specs.Facts.{TableShaped}
 
 -- what reading a table that it accepts gives: a table that obeys the rules, with at least a core
 pub record Accepted (b : Table) : Type 0 where
   pub rules : tableOk b ≡ true
-  pub filled : 1 ≤ b .cores
+  pub filled : 1 ≤ b .sizes .cores
   pub shaped : TableShaped b
 
 -- the system after some events, accepted or refused

@@ -1,9 +1,10 @@
--- "Every release takes the next number, served or skipped, and a job carries the number of its own release": at every reached state, against the history of the way to it.
+-- "Every release takes the next number, served or skipped, and a job carries the number of its own release": at every reached state, against the
+-- history of the way to it.
 use Prim.Native.Nat.{ℕ, _+_}
 use mathlib.Core.Path.{_≡_}
 use mathlib.Core.List.{List, [], _∷_, _++_}
 use native.Mathlib.Omega.{arith}
-use Rattle.ranges.specs.Lists.{same-throughout}
+use Rattle.lists.specs.laws.Lists.{same-throughout}
 use Rattle.ledger.specs.Releases.{numberAt, servedAt, skippedAt, jobAt, emptyLedger}
 use Rattle.table.specs.declared.Table.{Table}
 use Rattle.wire.specs.declared.answer.Answer.{Answer}
@@ -14,8 +15,8 @@ use Rattle.system.specs.System.{freshSystem, numberIn}
 use Rattle.system.specs.Events.{applyOf}
 use Rattle.reached.specs.Reached.{Accepted, after}
 use Rattle.reached.specs.History.{history, Numbered, tookRelease, select, takenIn, servedIn, skippedIn, numbersOf, lastServed, countUp}
-use Rattle.reached.specs.Runs.{start-shaped, start-formed, run-shaped, run-formed, after-append}
-use Rattle.reached.specs.Tallies.{Tally, tally, numbered-next, served-carries}
+use Rattle.reached.specs.laws.Runs.{start-shaped, start-formed, run-shaped, run-formed, after-append}
+use Rattle.reached.specs.laws.Tallies.{Tally, tally, numbered-next, served-carries}
 
 -- the answer to "RELEASE" of gang g after some events from table b: in the history it stands right after theirs (Runs, entry-next)
 abbrev pub releaseAfter : Table → List Event → ℕ → Answer
@@ -47,7 +48,8 @@ module _ (b : Table) (a : Accepted b) (g : ℕ) where
   job-is es = rw zero-at-first at (from-start es .job)
 
   -- "releases taken equal releases served plus releases skipped, each counted from the events and not from one another"
-  pub taken-adds-up : (es : List Event) → takenIn g (history (freshSystem b) es) ≡ servedIn g (history (freshSystem b) es) + skippedIn g (history (freshSystem b) es)
+  pub taken-adds-up : (es : List Event)
+      → takenIn g (history (freshSystem b) es) ≡ servedIn g (history (freshSystem b) es) + skippedIn g (history (freshSystem b) es)
   taken-adds-up es = from-start es .adds-up
 
   -- "every release takes the next number, served or skipped": one more than the gang's number, and than how many were taken before it
@@ -58,10 +60,12 @@ module _ (b : Table) (a : Accepted b) (g : ℕ) where
       (next, omega (arith, number-is-taken before))
 
   -- and so no number is left out and none comes twice: in order they are 1, 2, 3, ..
-  pub no-gap : (es : List Event) → numbersOf (select (tookRelease g) (history (freshSystem b) es)) ≡ countUp 1 (takenIn g (history (freshSystem b) es))
+  pub no-gap : (es : List Event)
+      → numbersOf (select (tookRelease g) (history (freshSystem b) es)) ≡ countUp 1 (takenIn g (history (freshSystem b) es))
   no-gap es = rw zero-at-first at (from-start es .in-order)
 
-  -- "a job carries the number of its own release": after a served release the job has that number, until the next one that is served, whatever else happens, skipped releases too
+  -- "a job carries the number of its own release": after a served release the job has that number, until the next one that is served, whatever
+  -- else happens, skipped releases too
   pub job-carries : (before more : List Event) (n : ℕ) → releaseAfter b before g ≡ Served n
       → servedIn g (history (after (freshSystem b) (before ++ (event.Release g ∷ []))) more) ≡ 0
       → jobAt (after (freshSystem b) (before ++ (event.Release g ∷ more)) .ledger) g ≡ n

@@ -3,10 +3,10 @@ use Prim.Native.Nat.{ℕ, _+_}
 use mathlib.Core.Bool.{Bool, true, false, not, cond, _&&_}
 use mathlib.Core.List.{List, [], _∷_}
 use lib.Dec.{eqb, leb}
-use Rattle.table.specs.Rules.{budgetOf}
 use Rattle.wire.specs.declared.event.Event.{Event}
 use Rattle.wire.specs.declared.event.Event.the-variants as event
 use Rattle.system.specs.declared.System.{System}
+use Rattle.system.specs.Stop.{budgetIn}
 use Rattle.system.specs.System.{occupantIn}
 use Rattle.reached.specs.History.{Entry, isAccepted}
 
@@ -64,4 +64,4 @@ abbrev pub trulyStopped : System → List Entry → ℕ → Bool
 trulyStopped s h c =
     eqb (occupantIn s c) 255
     && (not (eqb (s .lock .holder) 255)
-    && leb (budgetOf (s .table .budget) (s .lock .holder)) (trueSum c h))
+    && leb (budgetIn s) (trueSum c h))

@@ -7,25 +7,25 @@ use lib.ListN.{length, take, drop, length-drop}
 use lib.Seq.{take-all, drop-drop}
 use Rattle.table.specs.declared.Table.{Table}
 use Rattle.table.specs.Rules.{emptyTable}
-use Rattle.wire.specs.RecordLaws.{Within}
+use Rattle.wire.specs.Question.{WholeRecord}
 use Rattle.wire.specs.Table.{nextTableRecord}
 use Rattle.wire.specs.declared.refusal.Refusal.{Refusal}
 use Rattle.wire.specs.declared.table_record.TableRecord.{TableRecord}
 use Rattle.wire.specs.declared.table_record.NextTableRecord.the-variants as found
 use Rattle.reading.specs.declared.rules.Verdict.{Verdict}
 use Rattle.reading.specs.declared.rules.Verdict.the-variants.{Accepted, Refused}
-use Rattle.reading.specs.Taken.{Taken, refused, taken}
-use Rattle.reading.specs.Turn.{Turn, turnWith, turnOf}
-use Rattle.reading.specs.TurnLaws.{turn-within}
-use Rattle.reading.specs.Reading.{told, ended, readOn, readingOf}
-use Rattle.reading.specs.ReadingLaws.{read-end, read-stop, read-go}
+use Rattle.reading.specs.Taken.{Taken, recordRefused, recordTaken}
+use Rattle.reading.specs.Turn.{TableTurn, tableTurnWith, tableTurn}
+use Rattle.reading.specs.laws.TableTurn.{turn-whole}
+use Rattle.reading.specs.Reading.{told, tableEnds, readFrom, readingOf}
+use Rattle.reading.specs.laws.Reading.{read-end, read-stop, read-go}
 
 -- b is the table that the bytes before the place at give, and there are turns enough for those after it
 pub record Sofar (d : ℕ) (s : List ℕ) (b : Table) (at : ℕ) : Type 0 where
   pub turns : ℕ
   pub inside : at ≤ length s
   pub enough : length s - at ≤ turns
-  pub rest : readingOf d s ≡ readOn turns d b at (drop at s)
+  pub rest : readingOf d s ≡ readFrom turns d b at (drop at s)
 
 -- at first
 pub start : (d : ℕ) (s : List ℕ) → Sofar d s emptyTable 0
@@ -37,34 +37,34 @@ start d s = record {
 }
 
 -- at the end
-pub ends : (d : ℕ) (s : List ℕ) (b : Table) (at : ℕ) → Sofar d s b at → length s ≤ at → ended b at ≡ readingOf d s
+pub ends : (d : ℕ) (s : List ℕ) (b : Table) (at : ℕ) → Sofar d s b at → length s ≤ at → tableEnds b at ≡ readingOf d s
 ends d s b at f l = sym (f .rest ∙ read-end d b at (drop at s) (f .turns) (simp length-drop (omega arith)))
 
 -- ---- the turn that what the record question finds makes up
 
-abbrev pub turn : ℕ → Taken → Turn
+abbrev pub turn : ℕ → Taken → TableTurn
 turn n t = record { taken = t; size = n }
 
 module _ (d : ℕ) (b : Table) (s : List ℕ) where
-  pub read : (one : TableRecord) (n : ℕ) (t : Taken) → nextTableRecord s ≡ found.Record one n → t ≡ taken d b one → turn n t ≡ turnOf d b s
-  unfolding turnOf
-  read one n t f e = ap (turn n) e ∙ sym (ap (turnWith d b) f)
+  pub read : (one : TableRecord) (n : ℕ) (t : Taken) → nextTableRecord s ≡ found.Record one n → t ≡ recordTaken d b one → turn n t ≡ tableTurn d b s
+  unfolding tableTurn
+  read one n t f e = ap (turn n) e ∙ sym (ap (tableTurnWith d b) f)
 
-  pub unread : (refusal : Refusal) → nextTableRecord s ≡ found.Refused refusal → turn 0 (refused b refusal) ≡ turnOf d b s
-  unfolding turnOf
-  unread refusal f = sym (ap (turnWith d b) f)
+  pub unread : (refusal : Refusal) → nextTableRecord s ≡ found.Refused refusal → turn 0 (recordRefused b refusal) ≡ tableTurn d b s
+  unfolding tableTurn
+  unread refusal f = sym (ap (tableTurnWith d b) f)
 
 -- a turn on the part from the place on
-module _ (d : ℕ) (s : List ℕ) (b : Table) (at : ℕ) (f : Sofar d s b at) (l : at < length s) (t : Turn)
-    (e : t ≡ turnOf d b (take (length s - at) (drop at s))) where
-  whole : t ≡ turnOf d b (drop at s)
-  whole = e ∙ ap (turnOf d b) (take-all (length s - at) (drop at s) (simp length-drop (omega arith)))
+module _ (d : ℕ) (s : List ℕ) (b : Table) (at : ℕ) (f : Sofar d s b at) (l : at < length s) (t : TableTurn)
+    (e : t ≡ tableTurn d b (take (length s - at) (drop at s))) where
+  whole : t ≡ tableTurn d b (drop at s)
+  whole = e ∙ ap (tableTurn d b) (take-all (length s - at) (drop at s) (simp length-drop (omega arith)))
 
   some : 0 < length (drop at s)
   some = simp length-drop (omega arith)
 
-  its : {v : Verdict} → t .taken .verdict ≡ v → turnOf d b (drop at s) .taken .verdict ≡ v
-  its v = sym (ap (λ (x : Turn). x .taken .verdict) whole) ∙ v
+  its : {v : Verdict} → t .taken .verdict ≡ v → tableTurn d b (drop at s) .taken .verdict ≡ v
+  its v = sym (ap (λ (x : TableTurn). x .taken .verdict) whole) ∙ v
 
   pub stops : (refusal : Refusal) → t .taken .verdict ≡ Refused refusal → told (Refused refusal) b at ≡ readingOf d s
   stops refusal v = by (f .turns) refl
@@ -73,8 +73,8 @@ module _ (d : ℕ) (s : List ℕ) (b : Table) (at : ℕ) (f : Sofar d s b at) (l
       by zero z = absurd (omega (arith, f .enough))
       by (suc n) z = sym (f .rest ∙ rw z (read-stop d b at (drop at s) n some refusal (its v)))
 
-  pub takes : t .taken .verdict ≡ Accepted → Within (drop at s) 0 (t .size)
-  takes v = rw whole (turn-within d b (drop at s) (its v))
+  pub takes : t .taken .verdict ≡ Accepted → WholeRecord (drop at s) 0 (t .size)
+  takes v = rw whole (turn-whole d b (drop at s) (its v))
 
   pub goes : t .taken .verdict ≡ Accepted → Sofar d s (t .taken .table) (at + t .size)
   goes v = by (f .turns) refl

@@ -1,14 +1,10 @@
 pub mod Taken
 pub mod Parts
-pub mod TakenLaws
 pub mod Ending
 pub mod Turn
-pub mod TurnLaws
 pub mod Reading
-pub mod ReadingLaws
 pub mod Column
 pub mod Building
-pub mod Kept
-pub mod Known
 pub mod Sound
 pub mod SystemRead
+pub mod laws

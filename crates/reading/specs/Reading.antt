@@ -11,7 +11,7 @@ use Rattle.reading.specs.declared.rules.Verdict.{Verdict}
 use Rattle.reading.specs.declared.rules.Verdict.the-variants.{Accepted, Refused}
 use Rattle.reading.specs.declared.Reading.{Reading}
 use Rattle.reading.specs.Ending.{ending}
-use Rattle.reading.specs.Turn.{turnOf}
+use Rattle.reading.specs.Turn.{tableTurn}
 
 -- "length 3 has no budget and means 1,000,000"
 abbrev pub defaultBudget : ℕ
@@ -28,17 +28,17 @@ onVerdict (Refused refusal) stop go = stop
 onVerdict Accepted stop go = go
 
 -- "with none left a table or batch ends"
-abbrev pub ended : Table → ℕ → Reading
-ended b at = told (ending b) b at
+abbrev pub tableEnds : Table → ℕ → Reading
+tableEnds b at = told (ending b) b at
 
 -- Reading on at a place, with the bytes left there, in at most n turns
-unfoldable pub readOn : ℕ → ℕ → Table → ℕ → List ℕ → Reading
-readOn zero d b at s = ended b at
-readOn (suc n) d b at s =
-    cond (eqb (length s) 0) (ended b at)
-    (onVerdict (turnOf d b s .taken .verdict) (told (turnOf d b s .taken .verdict) b at)
-    (readOn n d (turnOf d b s .taken .table) (at + turnOf d b s .size) (drop (turnOf d b s .size) s)))
+unfoldable pub readFrom : ℕ → ℕ → Table → ℕ → List ℕ → Reading
+readFrom zero d b at s = tableEnds b at
+readFrom (suc n) d b at s =
+    cond (eqb (length s) 0) (tableEnds b at)
+    (onVerdict (tableTurn d b s .taken .verdict) (told (tableTurn d b s .taken .verdict) b at)
+    (readFrom n d (tableTurn d b s .taken .table) (at + tableTurn d b s .size) (drop (tableTurn d b s .size) s)))
 
 -- the whole: no table has more records than bytes
 abbrev pub readingOf : ℕ → List ℕ → Reading
-readingOf d s = readOn (length s) d emptyTable 0 s
+readingOf d s = readFrom (length s) d emptyTable 0 s

@@ -2,7 +2,6 @@
 use Prim.Native.Nat.{ℕ}
 use mathlib.Core.List.{List}
 use mathlib.Core.Path.{_≡_, ap}
-use Rattle.system.specs.declared.System.{System}
 use Rattle.system.specs.System.{freshSystem, emptySystem}
 use Rattle.reading.specs.declared.Reading.{Reading}
 use Rattle.reading.specs.declared.SystemRead.{SystemRead}

@@ -22,24 +22,22 @@ pub record Taken : Type 0 where
   pub verdict : Verdict
 
 -- the number of a verdict: 0, or the refusal's
-abbrev pub numberIn : Verdict → ℕ
-numberIn Accepted = 0
-numberIn (Refused refusal) = numberOf refusal
+abbrev pub verdictNumber : Verdict → ℕ
+verdictNumber Accepted = 0
+verdictNumber (Refused refusal) = numberOf refusal
 
 -- a refused record leaves the table as it came
-abbrev pub refused : Table → Refusal → Taken
-refused b refusal = record { table = b; verdict = Refused refusal }
+abbrev pub recordRefused : Table → Refusal → Taken
+recordRefused b refusal = record { table = b; verdict = Refused refusal }
 
-abbrev pub accepted : Table → Taken
-accepted b = record { table = b; verdict = Accepted }
+abbrev pub recordAccepted : Table → Taken
+recordAccepted b = record { table = b; verdict = Accepted }
 
 -- ---- the table with one record more
 
 abbrev pub withCores : Table → ℕ → Table
 withCores b n = record {
-  cores = n;
-  gangs = b .gangs;
-  threads = b .threads;
+  sizes = record { cores = n; gangs = b .sizes .gangs; threads = b .sizes .threads };
   priority = b .priority;
   budget = b .budget;
   gang = b .gang;
@@ -49,24 +47,20 @@ withCores b n = record {
 -- gangs and threads are "numbered from 0"
 abbrev pub withGang : Table → ℕ → ℕ → Table
 withGang b p m = record {
-  cores = b .cores;
-  gangs = b .gangs + 1;
-  threads = b .threads;
-  priority = set (b .priority) (b .gangs) p;
-  budget = set (b .budget) (b .gangs) m;
+  sizes = record { cores = b .sizes .cores; gangs = b .sizes .gangs + 1; threads = b .sizes .threads };
+  priority = set (b .priority) (b .sizes .gangs) p;
+  budget = set (b .budget) (b .sizes .gangs) m;
   gang = b .gang;
   core = b .core;
 }
 
 abbrev pub withThread : Table → ℕ → ℕ → Table
 withThread b g c = record {
-  cores = b .cores;
-  gangs = b .gangs;
-  threads = b .threads + 1;
+  sizes = record { cores = b .sizes .cores; gangs = b .sizes .gangs; threads = b .sizes .threads + 1 };
   priority = b .priority;
   budget = b .budget;
-  gang = set (b .gang) (b .threads) g;
-  core = set (b .core) (b .threads) c;
+  gang = set (b .gang) (b .sizes .threads) g;
+  core = set (b .core) (b .sizes .threads) c;
 }
 
 -- ---- not 6: "a count, priority, budget, number .. out of range or not in the table"
@@ -88,26 +82,26 @@ threadFits g gangs c cores = ltb g gangs && ltb c cores
 -- "a second CORES" is 4
 unfoldable pub coresTaken : Table → ℕ → Taken
 coresTaken b n =
-    cond (eqb (b .cores) 0) (cond (countFits n) (accepted (withCores b n)) (refused b OutOfRange)) (refused b NotCoresFirst)
+    cond (eqb (b .sizes .cores) 0) (cond (countFits n) (recordAccepted (withCores b n)) (recordRefused b OutOfRange)) (recordRefused b NotCoresFirst)
 
 -- "first table record not CORES" is 4, "a 33rd gang" 5, "priority already taken" 7
 unfoldable pub gangTaken : Table → ℕ → ℕ → Taken
 gangTaken b p m =
-    cond (eqb (b .cores) 0) (refused b NotCoresFirst)
-    (cond (leb maxGangs (b .gangs)) (refused b TooMany)
-    (cond (gangFits p m) (cond (occurs (b .priority) (b .gangs) p) (refused b PriorityTaken) (accepted (withGang b p m)))
-    (refused b OutOfRange)))
+    cond (eqb (b .sizes .cores) 0) (recordRefused b NotCoresFirst)
+    (cond (leb maxGangs (b .sizes .gangs)) (recordRefused b TooMany)
+    (cond (gangFits p m) (cond (occurs (b .priority) (b .sizes .gangs) p) (recordRefused b PriorityTaken) (recordAccepted (withGang b p m)))
+    (recordRefused b OutOfRange)))
 
 -- "first table record not CORES" is 4, a "129th thread" 5
 unfoldable pub threadTaken : Table → ℕ → ℕ → Taken
 threadTaken b g c =
-    cond (eqb (b .cores) 0) (refused b NotCoresFirst)
-    (cond (leb maxThreads (b .threads)) (refused b TooMany)
-    (cond (threadFits g (b .gangs) c (b .cores)) (accepted (withThread b g c)) (refused b OutOfRange)))
+    cond (eqb (b .sizes .cores) 0) (recordRefused b NotCoresFirst)
+    (cond (leb maxThreads (b .sizes .threads)) (recordRefused b TooMany)
+    (cond (threadFits g (b .sizes .gangs) c (b .sizes .cores)) (recordAccepted (withThread b g c)) (recordRefused b OutOfRange)))
 
 -- d is what "length 3 has no budget" means
-abbrev pub taken : ℕ → Table → TableRecord → Taken
-taken d b (put.Cores n) = coresTaken b n
-taken d b (put.Gang p m) = gangTaken b p m
-taken d b (put.ShortGang p) = gangTaken b p d
-taken d b (put.Thread g c) = threadTaken b g c
+abbrev pub recordTaken : ℕ → Table → TableRecord → Taken
+recordTaken d b (put.Cores n) = coresTaken b n
+recordTaken d b (put.Gang p m) = gangTaken b p m
+recordTaken d b (put.ShortGang p) = gangTaken b p d
+recordTaken d b (put.Thread g c) = threadTaken b g c

@@ -5,18 +5,18 @@ use Rattle.table.specs.declared.Table.{Table}
 use Rattle.wire.specs.Table.{nextTableRecord}
 use Rattle.wire.specs.declared.table_record.NextTableRecord.{NextTableRecord}
 use Rattle.wire.specs.declared.table_record.NextTableRecord.the-variants as found
-use Rattle.reading.specs.Taken.{Taken, refused, taken}
+use Rattle.reading.specs.Taken.{Taken, recordRefused, recordTaken}
 
 -- the table after the turn, and how many bytes the record took
-pub record Turn : Type 0 where
+pub record TableTurn : Type 0 where
   pub taken : Taken
   pub size : ℕ
 
 -- the record that was found, taken into the table, and how many bytes it took
-abbrev pub turnWith : ℕ → Table → NextTableRecord → Turn
-turnWith d b (found.Record put next) = record { taken = taken d b put; size = next }
-turnWith d b (found.Refused refusal) = record { taken = refused b refusal; size = 0 }
+abbrev pub tableTurnWith : ℕ → Table → NextTableRecord → TableTurn
+tableTurnWith d b (found.Record put next) = record { taken = recordTaken d b put; size = next }
+tableTurnWith d b (found.Refused refusal) = record { taken = recordRefused b refusal; size = 0 }
 
 -- d is a short GANG's budget, b the table so far, s the bytes left
-unfoldable pub turnOf : ℕ → Table → List ℕ → Turn
-turnOf d b s = turnWith d b (nextTableRecord s)
+unfoldable pub tableTurn : ℕ → Table → List ℕ → TableTurn
+tableTurn d b s = tableTurnWith d b (nextTableRecord s)

@@ -2,15 +2,16 @@
 ghost use mathlib.Core.Path.{_≡_};
 ghost use mathlib.Core.List.{List};
 ghost use Prim.Native.Nat.{ℕ};
-ghost use Rattle.reading.specs.Parts.{tableWith, takenOf};
+ghost use Rattle.table.specs.Rules.{tableOf};
+ghost use Rattle.reading.specs.Parts.{takenWith};
 ghost use Rattle.reading.specs.Taken.{gangFits, gangTaken};
-use crate::rules::Sizes;
 use crate::rules::Took;
 use crate::rules::accepted;
 use crate::rules::one_to;
 use crate::rules::refused;
 use table::MAX_BUDGET;
 use table::MAX_GANGS;
+use table::Sizes;
 use table::TOP_PRIORITY;
 use wire::refusal::Refusal;
 
@@ -29,7 +30,8 @@ pub(crate) fn take_gang<'a>(
     p: u8,
     m: u32,
 ) -> Took
-    ensures { λ r. ⌜ ((gang core : List ℕ) → takenOf r (now (priority .exit)) (now (budget .exit)) gang core ≡ gangTaken (tableWith sizes (now (priority .entry)) (now (budget .entry)) gang core) p m) ⌝ }
+    ensures { λ r. ⌜ ((gang core : List ℕ) → takenWith r (now (priority .exit)) (now (budget .exit)) gang core
+        ≡ gangTaken (tableOf sizes (now (priority .entry)) (now (budget .entry)) gang core) p m) ⌝ }
 {
     if sizes.cores == 0 {
         return refused(sizes, Refusal::NotCoresFirst);

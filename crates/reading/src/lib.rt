@@ -2,12 +2,12 @@
 ghost use mathlib.Core.Path.{_≡_};
 ghost use Rattle.table.specs.Rules.{emptyTable};
 ghost use Rattle.reading.specs.declared.rules.Verdict.the-variants.{Refused};
-ghost use Rattle.reading.specs.Parts.{tableWith};
-ghost use Rattle.reading.specs.Reading.{defaultBudget, told, ended, readingOf};
+ghost use Rattle.table.specs.Rules.{tableOf};
+ghost use Rattle.reading.specs.Reading.{defaultBudget, told, tableEnds, readingOf};
 ghost use Rattle.reading.specs.SystemRead.{systemRead};
-use rules::Sizes;
 use rules::Verdict;
 use system::System;
+use table::Sizes;
 use table::Table;
 use wire::refusal::Refusal;
 use wire::table_record::NextTableRecord;
@@ -106,14 +106,12 @@ fn ended(
     core: [u8; 128],
     place: usize,
 ) -> Reading
-    ensures { λ r. ⌜ r ≡ ended (tableWith sizes priority budget gang core) place ⌝ }
+    ensures { λ r. ⌜ r ≡ tableEnds (tableOf sizes priority budget gang core) place ⌝ }
 {
     match ending::ending(sizes, &gang) {
         Verdict::Accepted => Reading {
             table: Table {
-                cores: sizes.cores,
-                gangs: sizes.gangs,
-                threads: sizes.threads,
+                sizes,
                 priority,
                 budget,
                 gang,

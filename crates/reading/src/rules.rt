@@ -3,11 +3,13 @@ ghost use mathlib.Core.Path.{_≡_};
 ghost use mathlib.Core.List.{List};
 ghost use Prim.Native.Nat.{ℕ};
 ghost use Rattle.table.specs.Rules.{within};
-ghost use Rattle.reading.specs.Parts.{tableWith, takenOf};
-ghost use Rattle.reading.specs.Taken.{refused, accepted, taken};
+ghost use Rattle.table.specs.Rules.{tableOf};
+ghost use Rattle.reading.specs.Parts.{takenWith};
+ghost use Rattle.reading.specs.Taken.{recordRefused, recordAccepted, recordTaken};
 use crate::cores::take_cores;
 use crate::gang::take_gang;
 use crate::thread::take_thread;
+use table::Sizes;
 use wire::refusal::Refusal;
 use wire::table_record::TableRecord;
 
@@ -15,13 +17,6 @@ use wire::table_record::TableRecord;
 pub enum Verdict {
     Accepted,
     Refused(Refusal),
-}
-
-// How many cores, gangs and threads the records so far give.
-pub struct Sizes {
-    pub cores: u8,
-    pub gangs: u8,
-    pub threads: u8,
 }
 
 // The sizes with a record taken in, or as they came where it is refused: the lists are changed where they lie.
@@ -40,7 +35,8 @@ pub(crate) fn take<'a>(
     core: &'a mut [u8; 128],
     one: TableRecord,
 ) -> Took
-    ensures { λ r. ⌜ takenOf r (now (priority .exit)) (now (budget .exit)) (now (gang .exit)) (now (core .exit)) ≡ taken default (tableWith sizes (now (priority .entry)) (now (budget .entry)) (now (gang .entry)) (now (core .entry))) one ⌝ }
+    ensures { λ r. ⌜ takenWith r (now (priority .exit)) (now (budget .exit)) (now (gang .exit)) (now (core .exit))
+        ≡ recordTaken default (tableOf sizes (now (priority .entry)) (now (budget .entry)) (now (gang .entry)) (now (core .entry))) one ⌝ }
 {
     match one {
         TableRecord::Cores(count) => take_cores(sizes, count),
@@ -55,7 +51,8 @@ pub(crate) fn take<'a>(
 
 // The sizes as they came, beside why.
 pub(crate) fn refused(sizes: Sizes, refusal: Refusal) -> Took
-    ensures { λ r. ⌜ ((priority budget gang core : List ℕ) → takenOf r priority budget gang core ≡ refused (tableWith sizes priority budget gang core) refusal) ⌝ }
+    ensures { λ r. ⌜ ((priority budget gang core : List ℕ)
+        → takenWith r priority budget gang core ≡ recordRefused (tableOf sizes priority budget gang core) refusal) ⌝ }
 {
     Took {
         sizes,
@@ -64,7 +61,8 @@ pub(crate) fn refused(sizes: Sizes, refusal: Refusal) -> Took
 }
 
 pub(crate) fn accepted(sizes: Sizes) -> Took
-    ensures { λ r. ⌜ ((priority budget gang core : List ℕ) → takenOf r priority budget gang core ≡ accepted (tableWith sizes priority budget gang core)) ⌝ }
+    ensures { λ r. ⌜ ((priority budget gang core : List ℕ)
+        → takenWith r priority budget gang core ≡ recordAccepted (tableOf sizes priority budget gang core)) ⌝ }
 {
     Took {
         sizes,

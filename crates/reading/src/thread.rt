@@ -2,13 +2,14 @@
 ghost use mathlib.Core.Path.{_≡_};
 ghost use mathlib.Core.List.{List};
 ghost use Prim.Native.Nat.{ℕ};
-ghost use Rattle.reading.specs.Parts.{tableWith, takenOf};
+ghost use Rattle.table.specs.Rules.{tableOf};
+ghost use Rattle.reading.specs.Parts.{takenWith};
 ghost use Rattle.reading.specs.Taken.{threadFits, threadTaken};
-use crate::rules::Sizes;
 use crate::rules::Took;
 use crate::rules::accepted;
 use crate::rules::refused;
 use table::MAX_THREADS;
+use table::Sizes;
 use wire::refusal::Refusal;
 
 // The gang has been read already, and the core is one of the table's.
@@ -26,7 +27,8 @@ pub(crate) fn take_thread<'a>(
     g: u8,
     c: u8,
 ) -> Took
-    ensures { λ r. ⌜ ((priority budget : List ℕ) → takenOf r priority budget (now (gang .exit)) (now (core .exit)) ≡ threadTaken (tableWith sizes priority budget (now (gang .entry)) (now (core .entry))) g c) ⌝ }
+    ensures { λ r. ⌜ ((priority budget : List ℕ) → takenWith r priority budget (now (gang .exit)) (now (core .exit))
+        ≡ threadTaken (tableOf sizes priority budget (now (gang .entry)) (now (core .entry))) g c) ⌝ }
 {
     if sizes.cores == 0 {
         return refused(sizes, Refusal::NotCoresFirst);

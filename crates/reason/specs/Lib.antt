@@ -1,6 +1,5 @@
 pub mod Reasons
 pub mod Why
-pub mod WhyLaws
-pub mod FirstHeld
 pub mod Exactly
 pub mod Ahead
+pub mod laws

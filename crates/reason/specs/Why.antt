@@ -84,5 +84,5 @@ explainedOf s e = record { system = s; explanation = e }
 unfoldable pub whyOf : System → ℕ → Explained
 whyOf s t = explainedOf s
     (cond (wellFormed s)
-    (cond (ltb t (s .table .threads)) (explanation.Reason (reasonOf s t)) (explanation.Refused OutOfRange))
+    (cond (ltb t (s .table .sizes .threads)) (explanation.Reason (reasonOf s t)) (explanation.Refused OutOfRange))
     (explanation.Refused NotWellFormed))

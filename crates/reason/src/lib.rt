@@ -1,8 +1,9 @@
 // Document 02, K3, "Why isn't my thread running?": for a thread, the first reason that holds.
 ghost use mathlib.Core.Path.{_≡_};
-ghost use Rattle.reason.specs.Why.{reasonNumber, reasonWhich, explanationRefusal, explanationNumber, explanationWhich, readyReason, reasonOf, whyOf};
+ghost use Rattle.reason.specs.Why.{reasonNumber, reasonWhich, explanationRefusal, explanationNumber, explanationWhich, readyReason};
+ghost use Rattle.reason.specs.Why.{reasonOf, whyOf};
+use lists::at;
 use state::threads::is_running;
-use state::threads::thread_at;
 use system::System;
 use wire::refusal::Refusal;
 
@@ -33,7 +34,7 @@ pub struct Explained {
 }
 
 // A reason's number: its place in the request.
-pub fn number_of(reason: Reason) -> u8
+pub fn reason_number(reason: Reason) -> u8
     ensures { λ r. ⌜ r ≡ reasonNumber reason ⌝ }
 {
     match reason {
@@ -49,7 +50,7 @@ pub fn number_of(reason: Reason) -> u8
 }
 
 // The thread or gang that a reason names, or NONE.
-pub fn which_of(reason: Reason) -> u8
+pub fn reason_which(reason: Reason) -> u8
     ensures { λ r. ⌜ r ≡ reasonWhich reason ⌝ }
 {
     match reason {
@@ -65,7 +66,7 @@ pub fn which_of(reason: Reason) -> u8
 }
 
 // The refusal number of an explanation, 0 where it has a reason.
-pub fn refusal_in(explanation: Explanation) -> u8
+pub fn explanation_refusal(explanation: Explanation) -> u8
     ensures { λ r. ⌜ r ≡ explanationRefusal explanation ⌝ }
 {
     match explanation {
@@ -75,21 +76,21 @@ pub fn refusal_in(explanation: Explanation) -> u8
 }
 
 // The number of its reason, 0 where the question is refused.
-pub fn number_in(explanation: Explanation) -> u8
+pub fn explanation_number(explanation: Explanation) -> u8
     ensures { λ r. ⌜ r ≡ explanationNumber explanation ⌝ }
 {
     match explanation {
-        Explanation::Reason(reason) => number_of(reason),
+        Explanation::Reason(reason) => reason_number(reason),
         Explanation::Refused(_) => 0,
     }
 }
 
 // The thread or gang that its reason names, 0 where the question is refused.
-pub fn which_in(explanation: Explanation) -> u8
+pub fn explanation_which(explanation: Explanation) -> u8
     ensures { λ r. ⌜ r ≡ explanationWhich explanation ⌝ }
 {
     match explanation {
-        Explanation::Reason(reason) => which_of(reason),
+        Explanation::Reason(reason) => reason_which(reason),
         Explanation::Refused(_) => 0,
     }
 }
@@ -99,7 +100,7 @@ pub fn why(system: System, t: u8) -> Explained
     ensures { λ r. ⌜ r ≡ whyOf system t ⌝ }
 {
     if system.well_formed() {
-        if t < system.table.threads {
+        if t < system.table.sizes.threads {
             Explained {
                 system,
                 explanation: Explanation::Reason(reason_in(system, t)),
@@ -124,7 +125,7 @@ fn reason_in(system: System, t: u8) -> Reason
 {
     let table = system.table;
     let lock = system.lock;
-    let state = thread_at(&system.state, t);
+    let state = at(&system.state, t);
     if state == table::FINISHED {
         return Reason::Finished;
     }
@@ -132,7 +133,7 @@ fn reason_in(system: System, t: u8) -> Reason
         return Reason::Waiting;
     }
     if is_running(&system.state, &table.core, &lock.occupant, t) {
-        if coreset::test(lock.locked, thread_at(&table.core, t)) {
+        if coreset::test(lock.locked, at(&table.core, t)) {
             return Reason::RunningLocked;
         }
         return Reason::RunningDisplaced;
@@ -146,7 +147,7 @@ fn ready_reason(system: System, t: u8) -> Reason
 {
     let table = system.table;
     let lock = system.lock;
-    let c = thread_at(&table.core, t);
+    let c = at(&table.core, t);
     if coreset::test(lock.owing, c) {
         return Reason::CoreOwes;
     }
@@ -155,7 +156,7 @@ fn ready_reason(system: System, t: u8) -> Reason
         &table.core,
         &table.gang,
         &table.priority,
-        table.threads,
+        table.sizes.threads,
         c,
     );
     if first != t {
@@ -164,7 +165,7 @@ fn ready_reason(system: System, t: u8) -> Reason
     if lock.holder == coreset::NONE {
         return Reason::NoneOfThese;
     }
-    let g = thread_at(&table.gang, t);
+    let g = at(&table.gang, t);
     if table::ahead(&table.priority, lock.holder, g) {
         return Reason::GangHolds(lock.holder);
     }

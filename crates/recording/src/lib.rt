@@ -85,7 +85,7 @@ fn print_event(shows: Shows, system: System, position: u32, line: &[u8]) {
 // Why each thread isn't running, thread after thread.
 fn print_reasons(system: System, position: u32) {
     let mut text = [0u8; THREAD_ROOM];
-    for t in 0..system.table.threads {
+    for t in 0..system.table.sizes.threads {
         let length = listed::list_reason(system, position, t, &mut text);
         io::write_all(STDOUT, &text[..length]);
     }

@@ -1,4 +1,4 @@
--- One thread more: what it adds to the states and to the owing cores of its gang's release.
+-- One thread more: what a turn of the loops over a gang's threads makes of the states and of the owing cores.
 use Prim.Native.Nat.{ℕ, _+_}
 use mathlib.Core.Path.{_≡_}
 use mathlib.Core.List.{List}
@@ -10,19 +10,20 @@ use Rattle.table.specs.Numbers.{ready}
 use Rattle.table.specs.Order.{gangOf, coreOf}
 use Rattle.state.specs.Threads.{readied, owedBy}
 
-module _ (gang : List ℕ) (g n : ℕ) where
-  pub readied-one : (state : List ℕ) → gangOf gang n ≡ g → readied gang g (n + 1) state ≡ set (readied gang g n state) n ready
+module _ (gang : List ℕ) (g n : ℕ) (state s : List ℕ) (h : s ≡ readied gang g n state) where
+  pub readied-one : gangOf gang n ≡ g → set s n ready ≡ readied gang g (n + 1) state
   unfolding readied
-  readied-one state e = rw (add-one, eq-eqb (gangOf gang n) g e)
+  readied-one e = rw (add-one, eq-eqb (gangOf gang n) g e, h)
 
-  pub readied-none : (state : List ℕ) → (gangOf gang n ≡ g → ⊥) → readied gang g (n + 1) state ≡ readied gang g n state
+  pub readied-none : (gangOf gang n ≡ g → ⊥) → s ≡ readied gang g (n + 1) state
   unfolding readied
-  readied-none state e = rw (add-one, ne-eqb (gangOf gang n) g e)
+  readied-none e = rw (add-one, ne-eqb (gangOf gang n) g e) h
 
-  pub owed-one : (core : List ℕ) (m : ℕ) → gangOf gang n ≡ g → owedBy core gang g (n + 1) m ≡ withinWidth 32 (owedBy core gang g n m) (coreOf core n)
+module _ (core gang : List ℕ) (g n owing m : ℕ) (h : m ≡ owedBy core gang g n owing) where
+  pub owed-one : gangOf gang n ≡ g → withinWidth 32 m (coreOf core n) ≡ owedBy core gang g (n + 1) owing
   unfolding owedBy
-  owed-one core m e = rw (add-one, eq-eqb (gangOf gang n) g e)
+  owed-one e = rw (add-one, eq-eqb (gangOf gang n) g e, h)
 
-  pub owed-none : (core : List ℕ) (m : ℕ) → (gangOf gang n ≡ g → ⊥) → owedBy core gang g (n + 1) m ≡ owedBy core gang g n m
+  pub owed-none : (gangOf gang n ≡ g → ⊥) → m ≡ owedBy core gang g (n + 1) owing
   unfolding owedBy
-  owed-none core m e = rw (add-one, ne-eqb (gangOf gang n) g e)
+  owed-none e = rw (add-one, ne-eqb (gangOf gang n) g e) h

@@ -1,5 +1,5 @@
 pub mod Threads
-pub mod ThreadsLaws
-pub mod OwedLaws
 pub mod Allowance
 pub mod Rules
+pub mod laws
+pub mod HasThread

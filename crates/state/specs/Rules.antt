@@ -4,6 +4,7 @@ use mathlib.Core.Bool.{Bool, cond}
 use mathlib.Core.List.{List}
 use lib.Dec.{eqb, ltb, leb}
 use lib.ListN.{getD}
+use Rattle.lists.specs.Bounded.{Bounded}
 use Rattle.ranges.specs.Range.{every}
 use Rattle.table.specs.Numbers.{finished, waiting, maxCores, maxThreads}
 use Rattle.state.specs.Allowance.{maxTraffic}
@@ -27,3 +28,13 @@ countPlace cores kept c = countOk cores c (getD kept c 0)
 
 unfoldable pub countsOk : ℕ → List ℕ → Bool
 countsOk cores kept = every maxCores (countPlace cores kept)
+
+-- ---- the same as facts
+
+-- each of the n threads is finished, ready or waiting, and every other place is zero
+abbrev pub StatesOk : ℕ → List ℕ → Type 0
+StatesOk threads state = Bounded threads waiting state
+
+-- each of the n cores has a count of at most 1,000,000, and every other place is zero
+abbrev pub CountsOk : ℕ → List ℕ → Type 0
+CountsOk cores kept = Bounded cores maxTraffic kept

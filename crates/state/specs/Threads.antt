@@ -30,4 +30,5 @@ readied gang g (suc n) state = cond (eqb (gangOf gang n) g) (set (readied gang g
 -- "their cores owe": those of gang g's threads, of the first n
 unfoldable pub owedBy : List ℕ → List ℕ → ℕ → ℕ → ℕ → ℕ
 owedBy core gang g zero owing = owing
-owedBy core gang g (suc n) owing = cond (eqb (gangOf gang n) g) (withinWidth 32 (owedBy core gang g n owing) (coreOf core n)) (owedBy core gang g n owing)
+owedBy core gang g (suc n) owing =
+    cond (eqb (gangOf gang n) g) (withinWidth 32 (owedBy core gang g n owing) (coreOf core n)) (owedBy core gang g n owing)

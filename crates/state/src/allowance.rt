@@ -1,8 +1,8 @@
 // The allowance of map drawing: the kept counts and the stop.
 ghost use mathlib.Core.Path.{_≡_};
 ghost use Rattle.state.specs.Allowance.{sumOf, stoppedAt};
-use crate::threads::occupant_at;
-use ledger::value_of;
+use lists::at_or;
+use lists::value_at;
 
 // The most that a TRAFFIC may carry, and that a kept count comes to.
 pub const MAX_TRAFFIC: u32 = 1000000;
@@ -29,11 +29,11 @@ pub fn is_stopped<'a>(
 ) -> bool
     ensures { λ r. ⌜ r ≡ stoppedAt (now (occupant .entry)) holder (now (budget .entry)) (now (kept .entry)) c ⌝ }
 {
-    if occupant_at(occupant, c) == coreset::NONE {
+    if at_or(occupant, c, coreset::NONE) == coreset::NONE {
         if holder == coreset::NONE {
             false
         } else {
-            value_of(budget, holder) <= value_of(kept, c)
+            value_at(budget, holder) <= value_at(kept, c)
         }
     } else {
         false

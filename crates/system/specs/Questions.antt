@@ -1,6 +1,6 @@
 -- Document 01, "Questions": each question's answer for any system whatever, with 14, then 6; "a question's value is then 0".
 use Prim.Native.Nat.{ℕ}
-use mathlib.Core.Bool.{Bool, cond}
+use mathlib.Core.Bool.{cond}
 use lib.Dec.{ltb}
 use lib.ListN.{getD}
 use Rattle.coreset.specs.Set.{count, lowest}
@@ -37,26 +37,26 @@ aboutOne s i n value = toldOf s (cond (wellFormed s) (cond (ltb i n) (Value valu
 
 -- "a core's occupant"
 abbrev pub occupantFound : System → ℕ → Told
-occupantFound s c = aboutOne s c (s .table .cores) (occupantIn s c)
+occupantFound s c = aboutOne s c (s .table .sizes .cores) (occupantIn s c)
 
 -- "whether it is stopped"
 abbrev pub stoppedFound : System → ℕ → Told
-stoppedFound s c = aboutOne s c (s .table .cores) (cond (stopped s c) 1 0)
+stoppedFound s c = aboutOne s c (s .table .sizes .cores) (cond (stopped s c) 1 0)
 
 -- "a gang's release number"
 abbrev pub numberFound : System → ℕ → Told
-numberFound s g = aboutOne s g (s .table .gangs) (numberIn s g)
+numberFound s g = aboutOne s g (s .table .sizes .gangs) (numberIn s g)
 
 -- "served and skipped counts"
 abbrev pub servedFound : System → ℕ → Told
-servedFound s g = aboutOne s g (s .table .gangs) (getD (s .ledger .served) g 0)
+servedFound s g = aboutOne s g (s .table .sizes .gangs) (getD (s .ledger .served) g 0)
 
 abbrev pub skippedFound : System → ℕ → Told
-skippedFound s g = aboutOne s g (s .table .gangs) (getD (s .ledger .skipped) g 0)
+skippedFound s g = aboutOne s g (s .table .sizes .gangs) (getD (s .ledger .skipped) g 0)
 
 -- "its current job's number (0 before the first)"
 abbrev pub jobFound : System → ℕ → Told
-jobFound s g = aboutOne s g (s .table .gangs) (getD (s .ledger .job) g 0)
+jobFound s g = aboutOne s g (s .table .sizes .gangs) (getD (s .ledger .job) g 0)
 
 -- "the lowest owing core or 255"
 abbrev pub lowestFound : System → Told

@@ -9,7 +9,7 @@ use Rattle.lock.specs.Serve.{freeLock}
 use Rattle.lock.specs.declared.Lock.{Lock}
 use Rattle.table.specs.declared.Table.{Table}
 use Rattle.table.specs.Numbers.{finished, maxCores, maxThreads}
-use Rattle.table.specs.Order.{ahead, gangOf, coreOf, firstReady}
+use Rattle.table.specs.Order.{gangOf, coreOf, Lineup, lineupOf, ahead, firstReady}
 use Rattle.table.specs.Rules.{emptyTable}
 use Rattle.system.specs.declared.System.{System}
 use Rattle.state.specs.Threads.{isRunning}
@@ -54,13 +54,17 @@ numberIn s g = getD (s .ledger .number) g 0
 abbrev pub running : System → ℕ → Bool
 running s t = isRunning (s .state) (s .table .core) (s .lock .occupant) t
 
+-- what the order of its gangs and of its ready threads goes by
+abbrev pub lineupIn : System → Lineup
+lineupIn s = lineupOf (s .table) (s .state)
+
 -- core c's first ready thread, 255 for none
 abbrev pub firstIn : System → ℕ → ℕ
-firstIn s c = firstReady (s .state) (s .table .core) (s .table .gang) (s .table .priority) (s .table .threads) c
+firstIn s c = firstReady (lineupIn s) c
 
 -- gang g is ahead of gang h
 abbrev pub aheadIn : System → ℕ → ℕ → Bool
-aheadIn s g h = ahead (s .table .priority) g h
+aheadIn s g h = ahead (lineupIn s) g h
 
 -- the system with another part
 abbrev pub withState : System → List ℕ → System

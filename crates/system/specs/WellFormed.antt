@@ -9,9 +9,9 @@ use Rattle.system.specs.declared.System.{System}
 -- what the lock is held against
 abbrev pub pinsOf : System → Pins
 pinsOf s = record {
-  cores = s .table .cores;
-  threads = s .table .threads;
-  gangs = s .table .gangs;
+  cores = s .table .sizes .cores;
+  threads = s .table .sizes .threads;
+  gangs = s .table .sizes .gangs;
   core = s .table .core;
   gang = s .table .gang;
 }
@@ -19,7 +19,7 @@ pinsOf s = record {
 unfoldable pub wellFormed : System → Bool
 wellFormed s =
     tableOk (s .table)
-    && statesOk (s .table .threads) (s .state)
-    && countsOk (s .table .cores) (s .kept)
-    && ledgerOk (s .table .gangs) (s .ledger)
+    && statesOk (s .table .sizes .threads) (s .state)
+    && countsOk (s .table .sizes .cores) (s .kept)
+    && ledgerOk (s .table .sizes .gangs) (s .ledger)
     && lockOk (pinsOf s) (s .lock)

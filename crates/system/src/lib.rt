@@ -2,10 +2,8 @@
 // it and eight questions ask about it. Each takes the system by value and hands it back beside its answer.
 ghost use mathlib.Core.Path.{_≡_};
 ghost use Rattle.system.specs.System.{emptySystem, freshSystem};
-ghost use Rattle.system.specs.Parts.{systemOf};
 ghost use Rattle.system.specs.WellFormed.{wellFormed};
 use ledger::Ledger;
-use lock::Held;
 use lock::Lock;
 use table::Table;
 
@@ -17,8 +15,8 @@ mod well_formed;
 pub use events::Reply;
 pub use questions::Finding;
 pub use questions::Told;
-pub use questions::refusal_in;
-pub use questions::value_in;
+pub use questions::finding_refusal;
+pub use questions::finding_value;
 pub use well_formed::parts_ok;
 
 #[repr(C)]
@@ -53,42 +51,14 @@ impl System {
         }
     }
 
-    // The system of these parts.
-    pub fn of_parts(
-        table: Table,
-        state: [u8; 128],
-        number: [u32; 32],
-        served: [u32; 32],
-        skipped: [u32; 32],
-        job: [u32; 32],
-        held: Held,
-        occupant: [u8; 32],
-        kept: [u32; 32],
-    ) -> System
-        ensures { λ r. ⌜ r ≡ systemOf (table .cores) (table .gangs) (table .threads) (table .priority) (table .budget) (table .gang) (table .core) state number served skipped job held occupant kept ⌝ }
-    {
-        System {
-            table,
-            state,
-            ledger: Ledger {
-                number,
-                served,
-                skipped,
-                job,
-            },
-            lock: held.with(occupant),
-            kept,
-        }
-    }
-
     // Whether the system is well formed.
     pub fn well_formed(self) -> bool
         ensures { λ r. ⌜ r ≡ wellFormed self ⌝ }
     {
+        let lock = self.lock;
+        let held = lock.held();
         parts_ok(
-            self.table.cores,
-            self.table.gangs,
-            self.table.threads,
+            self.table.sizes,
             &self.table.priority,
             &self.table.budget,
             &self.table.gang,
@@ -98,10 +68,7 @@ impl System {
             &self.ledger.served,
             &self.ledger.skipped,
             &self.ledger.job,
-            self.lock.holder,
-            self.lock.locked,
-            self.lock.blocked,
-            self.lock.owing,
+            held,
             &self.lock.occupant,
             &self.kept,
         )

@@ -1,10 +1,11 @@
 // The eight questions, for any system whatever: 14 first, then 6. Each hands the system back beside what it finds.
 ghost use mathlib.Core.Path.{_≡_};
-ghost use Rattle.system.specs.Questions.{findingRefusal, findingValue, aboutAll, aboutOne, occupantFound, stoppedFound, numberFound, servedFound, skippedFound, jobFound, lowestFound, owingFound};
+ghost use Rattle.system.specs.Questions.{findingRefusal, findingValue, aboutAll, aboutOne, occupantFound, stoppedFound, numberFound};
+ghost use Rattle.system.specs.Questions.{servedFound, skippedFound, jobFound, lowestFound, owingFound};
 use crate::System;
-use ledger::value_of;
+use lists::at_or;
+use lists::value_at;
 use state::allowance::is_stopped;
-use state::threads::occupant_at;
 use wire::refusal::Refusal;
 
 // What a question finds: a value, or why it is refused.
@@ -20,7 +21,7 @@ pub struct Told {
 }
 
 // The refusal number of what a question finds, 0 where it has a value.
-pub fn refusal_in(finding: Finding) -> u8
+pub fn finding_refusal(finding: Finding) -> u8
     ensures { λ r. ⌜ r ≡ findingRefusal finding ⌝ }
 {
     match finding {
@@ -30,7 +31,7 @@ pub fn refusal_in(finding: Finding) -> u8
 }
 
 // The value of what a question finds, 0 where it is refused.
-pub fn value_in(finding: Finding) -> u32
+pub fn finding_value(finding: Finding) -> u32
     ensures { λ r. ⌜ r ≡ findingValue finding ⌝ }
 {
     match finding {
@@ -86,7 +87,11 @@ impl System {
         ensures { λ r. ⌜ r ≡ occupantFound self c ⌝ }
     {
         let lock = self.lock;
-        self.about_one(c, self.table.cores, occupant_at(&lock.occupant, c) as u32)
+        self.about_one(
+            c,
+            self.table.sizes.cores,
+            at_or(&lock.occupant, c, coreset::NONE) as u32,
+        )
     }
 
     // Whether core c is stopped: 1 or 0.
@@ -96,9 +101,9 @@ impl System {
         let table = self.table;
         let lock = self.lock;
         if is_stopped(&lock.occupant, lock.holder, &table.budget, &self.kept, c) {
-            self.about_one(c, table.cores, 1)
+            self.about_one(c, table.sizes.cores, 1)
         } else {
-            self.about_one(c, table.cores, 0)
+            self.about_one(c, table.sizes.cores, 0)
         }
     }
 
@@ -107,7 +112,7 @@ impl System {
         ensures { λ r. ⌜ r ≡ numberFound self g ⌝ }
     {
         let ledger = self.ledger;
-        self.about_one(g, self.table.gangs, value_of(&ledger.number, g))
+        self.about_one(g, self.table.sizes.gangs, value_at(&ledger.number, g))
     }
 
     // How many of gang g's releases were served.
@@ -115,7 +120,7 @@ impl System {
         ensures { λ r. ⌜ r ≡ servedFound self g ⌝ }
     {
         let ledger = self.ledger;
-        self.about_one(g, self.table.gangs, value_of(&ledger.served, g))
+        self.about_one(g, self.table.sizes.gangs, value_at(&ledger.served, g))
     }
 
     // How many of gang g's releases were skipped.
@@ -123,7 +128,7 @@ impl System {
         ensures { λ r. ⌜ r ≡ skippedFound self g ⌝ }
     {
         let ledger = self.ledger;
-        self.about_one(g, self.table.gangs, value_of(&ledger.skipped, g))
+        self.about_one(g, self.table.sizes.gangs, value_at(&ledger.skipped, g))
     }
 
     // The number of gang g's current job, 0 before the first.
@@ -131,7 +136,7 @@ impl System {
         ensures { λ r. ⌜ r ≡ jobFound self g ⌝ }
     {
         let ledger = self.ledger;
-        self.about_one(g, self.table.gangs, value_of(&ledger.job, g))
+        self.about_one(g, self.table.sizes.gangs, value_at(&ledger.job, g))
     }
 
     // The lowest owing core, or 255.

@@ -1,5 +1,5 @@
 // The seven events as steps on a system's parts, in place: what each does to any system whatever, well formed or not.
-// An event is lent only the parts that it reads or changes. The public events look at the system first.
+// An event is lent only the parts that it reads or changes. Who calls a step has looked at the system, or answers for not having looked.
 ghost use mathlib.Core.Path.{_≡_};
 ghost use mathlib.Core.List.{List};
 ghost use Prim.Native.Nat.{ℕ};
@@ -8,10 +8,13 @@ ghost use Rattle.lock.specs.Serve.{lockOf, oweOf};
 ghost use Rattle.table.specs.Numbers.{maxCores};
 ghost use Rattle.table.specs.Order.{coreOf};
 ghost use Rattle.wire.specs.declared.answer.Answer.the-variants.{Refused, Done};
-ghost use Rattle.system.specs.Events.{replyOf, releasedBy, releaseStep, leaveStep, wakeStep, serveStep, trafficStep, stepOf, applyOf};
 ghost use Rattle.system.specs.Parts.{systemOf, steppedOf};
-use ledger::set_value;
-use ledger::value_of;
+ghost use Rattle.system.specs.InPlace.{ReleasedInPlace, ReleaseInPlace, LeaveInPlace, WakeInPlace, ServeInPlace, TrafficInPlace, StepInPlace};
+use lists::at;
+use lists::at_or;
+use lists::put;
+use lists::put_value;
+use lists::value_at;
 use lock::Held;
 use state::allowance::is_stopped;
 use state::allowance::sum_of;
@@ -19,9 +22,7 @@ use state::threads::all_finished;
 use state::threads::is_running;
 use state::threads::make_owe;
 use state::threads::make_ready;
-use state::threads::occupant_at;
-use state::threads::set_thread;
-use state::threads::thread_at;
+use table::Sizes;
 use wire::answer::Answer;
 use wire::event::Event;
 use wire::refusal::Refusal;
@@ -43,7 +44,7 @@ fn refused(held: Held, refusal: Refusal) -> Stepped
 
 // RELEASE of a gang that is there and has a number left: served where all its threads are finished, and else skipped.
 fn released<'a>(
-    threads: u8,
+    sizes: Sizes,
     gang: &'a [u8; 128],
     core: &'a [u8; 128],
     state: &'a mut [u8; 128],
@@ -54,28 +55,29 @@ fn released<'a>(
     mut held: Held,
     g: u8,
 ) -> Stepped
-    ensures { λ r. ⌜ ((cores gangs : ℕ) (priority budget occupant kept : List ℕ) → releasedBy (systemOf cores gangs threads priority budget (now (gang .entry)) (now (core .entry)) (now (state .entry)) (now (number .entry)) (now (served .entry)) (now (skipped .entry)) (now (job .entry)) held occupant kept) g ≡ replyOf (systemOf cores gangs threads priority budget (now (gang .entry)) (now (core .entry)) (now (state .exit)) (now (number .exit)) (now (served .exit)) (now (skipped .exit)) (now (job .exit)) (r .held) occupant kept) (r .answer)) ⌝ }
+    ensures { λ r. ⌜ ReleasedInPlace sizes (now (gang .entry)) (now (core .entry)) g
+        (now (state .entry)) (now (number .entry)) (now (served .entry)) (now (skipped .entry)) (now (job .entry)) held
+        (now (state .exit)) (now (number .exit)) (now (served .exit)) (now (skipped .exit)) (now (job .exit)) r ⌝ }
 {
-    if all_finished(state, gang, g, threads) {
-        make_ready(state, gang, g, threads);
-        held.owing = make_owe(held.owing, core, gang, g, threads);
-        ledger::serve(number, served, job, g);
+    if all_finished(state, gang, g, sizes.threads) {
+        make_ready(state, gang, g, sizes.threads);
+        held.owing = make_owe(held.owing, core, gang, g, sizes.threads);
+        ledger::serve_release(number, served, job, g);
         return Stepped {
             held,
-            answer: Answer::Served(value_of(number, g)),
+            answer: Answer::Served(value_at(number, g)),
         };
     }
-    ledger::skip(number, skipped, g);
+    ledger::skip_release(number, skipped, g);
     Stepped {
         held,
-        answer: Answer::Skipped(value_of(number, g)),
+        answer: Answer::Skipped(value_at(number, g)),
     }
 }
 
 // RELEASE gang g.
-fn release<'a>(
-    gangs: u8,
-    threads: u8,
+pub(crate) fn release<'a>(
+    sizes: Sizes,
     gang: &'a [u8; 128],
     core: &'a [u8; 128],
     state: &'a mut [u8; 128],
@@ -86,16 +88,18 @@ fn release<'a>(
     held: Held,
     g: u8,
 ) -> Stepped
-    ensures { λ r. ⌜ ((cores : ℕ) (priority budget occupant kept : List ℕ) → releaseStep (systemOf cores gangs threads priority budget (now (gang .entry)) (now (core .entry)) (now (state .entry)) (now (number .entry)) (now (served .entry)) (now (skipped .entry)) (now (job .entry)) held occupant kept) g ≡ replyOf (systemOf cores gangs threads priority budget (now (gang .entry)) (now (core .entry)) (now (state .exit)) (now (number .exit)) (now (served .exit)) (now (skipped .exit)) (now (job .exit)) (r .held) occupant kept) (r .answer)) ⌝ }
+    ensures { λ r. ⌜ ReleaseInPlace sizes (now (gang .entry)) (now (core .entry)) g
+        (now (state .entry)) (now (number .entry)) (now (served .entry)) (now (skipped .entry)) (now (job .entry)) held
+        (now (state .exit)) (now (number .exit)) (now (served .exit)) (now (skipped .exit)) (now (job .exit)) r ⌝ }
 {
-    if gangs <= g {
+    if sizes.gangs <= g {
         return refused(held, Refusal::OutOfRange);
     }
-    if value_of(number, g) == ledger::LAST_NUMBER {
+    if value_at(number, g) == ledger::LAST_NUMBER {
         return refused(held, Refusal::NumbersSpent);
     }
     released(
-        threads,
+        sizes,
         gang,
         core,
         state,
@@ -114,16 +118,16 @@ fn turn<'a>(core: &'a [u8; 128], state: &'a mut [u8; 128], held: Held, t: u8, v:
     ensures owes { λ r. ⌜ ((o : List ℕ) → lockOf (r .held) o ≡ oweOf (lockOf held o) (coreOf (now (core .entry)) t)) ⌝ }
     ensures done { λ r. ⌜ r .answer ≡ Done ⌝ }
 {
-    set_thread(state, t, v);
+    put(state, t, v);
     Stepped {
-        held: held.owe(thread_at(core, t)),
+        held: held.owe(at(core, t)),
         answer: Answer::Done,
     }
 }
 
 // FINISH or WAIT thread t: it becomes v, if it is running.
-fn leave<'a>(
-    threads: u8,
+pub(crate) fn leave<'a>(
+    sizes: Sizes,
     core: &'a [u8; 128],
     occupant: &'a [u8; 32],
     state: &'a mut [u8; 128],
@@ -131,9 +135,9 @@ fn leave<'a>(
     t: u8,
     v: u8,
 ) -> Stepped
-    ensures { λ r. ⌜ ((cores gangs : ℕ) (priority budget gang number served skipped job kept : List ℕ) → leaveStep (systemOf cores gangs threads priority budget gang (now (core .entry)) (now (state .entry)) number served skipped job held (now (occupant .entry)) kept) t v ≡ replyOf (systemOf cores gangs threads priority budget gang (now (core .entry)) (now (state .exit)) number served skipped job (r .held) (now (occupant .entry)) kept) (r .answer)) ⌝ }
+    ensures { λ r. ⌜ LeaveInPlace sizes (now (core .entry)) (now (occupant .entry)) t v (now (state .entry)) held (now (state .exit)) r ⌝ }
 {
-    if threads <= t {
+    if sizes.threads <= t {
         return refused(held, Refusal::OutOfRange);
     }
     if is_running(state, core, occupant, t) {
@@ -143,28 +147,27 @@ fn leave<'a>(
 }
 
 // WAKE thread t.
-fn wake<'a>(
-    threads: u8,
+pub(crate) fn wake<'a>(
+    sizes: Sizes,
     core: &'a [u8; 128],
     state: &'a mut [u8; 128],
     held: Held,
     t: u8,
 ) -> Stepped
-    ensures { λ r. ⌜ ((cores gangs : ℕ) (priority budget gang number served skipped job occupant kept : List ℕ) → wakeStep (systemOf cores gangs threads priority budget gang (now (core .entry)) (now (state .entry)) number served skipped job held occupant kept) t ≡ replyOf (systemOf cores gangs threads priority budget gang (now (core .entry)) (now (state .exit)) number served skipped job (r .held) occupant kept) (r .answer)) ⌝ }
+    ensures { λ r. ⌜ WakeInPlace sizes (now (core .entry)) t (now (state .entry)) held (now (state .exit)) r ⌝ }
 {
-    if threads <= t {
+    if sizes.threads <= t {
         return refused(held, Refusal::OutOfRange);
     }
-    if thread_at(state, t) == table::WAITING {
+    if at(state, t) == table::WAITING {
         return turn(core, state, held, t, table::READY);
     }
     refused(held, Refusal::NotWaiting)
 }
 
 // SERVE core c.
-fn serve<'a>(
-    cores: u8,
-    threads: u8,
+pub(crate) fn serve<'a>(
+    sizes: Sizes,
     priority: &'a [u8; 32],
     gang: &'a [u8; 128],
     core: &'a [u8; 128],
@@ -173,23 +176,24 @@ fn serve<'a>(
     held: Held,
     c: u8,
 ) -> Stepped
-    ensures { λ r. ⌜ ((gangs : ℕ) (budget number served skipped job kept : List ℕ) → serveStep (systemOf cores gangs threads (now (priority .entry)) budget (now (gang .entry)) (now (core .entry)) (now (state .entry)) number served skipped job held (now (occupant .entry)) kept) c ≡ replyOf (systemOf cores gangs threads (now (priority .entry)) budget (now (gang .entry)) (now (core .entry)) (now (state .entry)) number served skipped job (r .held) (now (occupant .exit)) kept) (r .answer)) ⌝ }
+    ensures { λ r. ⌜ ServeInPlace sizes (now (priority .entry)) (now (gang .entry)) (now (core .entry)) (now (state .entry)) c
+        (now (occupant .entry)) held (now (occupant .exit)) r ⌝ }
 {
-    if cores <= c {
+    if sizes.cores <= c {
         return refused(held, Refusal::OutOfRange);
     }
-    let t = table::first_ready(state, core, gang, priority, threads, c);
-    let g = thread_at(gang, t);
+    let t = table::first_ready(state, core, gang, priority, sizes.threads, c);
+    let g = at(gang, t);
     let next = held.serve(occupant, c, t, g, table::ahead(priority, g, held.holder));
     Stepped {
         held: next,
-        answer: Answer::Occupant(occupant_at(occupant, c)),
+        answer: Answer::Occupant(at_or(occupant, c, coreset::NONE)),
     }
 }
 
 // TRAFFIC from core c: the holder and the core sets stay.
-fn traffic<'a>(
-    cores: u8,
+pub(crate) fn traffic<'a>(
+    sizes: Sizes,
     budget: &'a [u32; 32],
     occupant: &'a [u8; 32],
     kept: &'a mut [u32; 32],
@@ -197,20 +201,21 @@ fn traffic<'a>(
     c: u8,
     transactions: u32,
 ) -> Answer
-    ensures { λ r. ⌜ ((gangs threads : ℕ) (priority gang core state number served skipped job : List ℕ) → trafficStep (systemOf cores gangs threads priority (now (budget .entry)) gang core state number served skipped job held (now (occupant .entry)) (now (kept .entry))) c transactions ≡ replyOf (systemOf cores gangs threads priority (now (budget .entry)) gang core state number served skipped job held (now (occupant .entry)) (now (kept .exit))) r) ⌝ }
+    ensures { λ r. ⌜ TrafficInPlace sizes (now (budget .entry)) (now (occupant .entry)) held c transactions
+        (now (kept .entry)) (now (kept .exit)) r ⌝ }
 {
-    if cores <= c {
+    if sizes.cores <= c {
         return Answer::Refused(Refusal::OutOfRange);
     }
     if state::allowance::MAX_TRAFFIC < transactions {
         return Answer::Refused(Refusal::OutOfRange);
     }
-    if occupant_at(occupant, c) == coreset::NONE {
-        let count = sum_of(value_of(kept, c), transactions);
-        set_value(kept, c, count);
+    if at_or(occupant, c, coreset::NONE) == coreset::NONE {
+        let count = sum_of(value_at(kept, c), transactions);
+        put_value(kept, c, count);
         return Answer::Counted {
             stopped: is_stopped(occupant, held.holder, budget, kept, c),
-            count: value_of(kept, c),
+            count: value_at(kept, c),
         };
     }
     Answer::Refused(Refusal::CoreOccupied)
@@ -223,11 +228,9 @@ fn tick(kept: &mut [u32; 32])
     *kept = [0; 32];
 }
 
-// Any event, on any system's parts: for a caller that has found the system well formed already.
+// Any event, on any system's parts, with no look at the system: for a caller that has found it well formed already.
 pub fn step<'a>(
-    cores: u8,
-    gangs: u8,
-    threads: u8,
+    sizes: Sizes,
     priority: &'a [u8; 32],
     budget: &'a [u32; 32],
     gang: &'a [u8; 128],
@@ -242,13 +245,16 @@ pub fn step<'a>(
     kept: &'a mut [u32; 32],
     event: Event,
 ) -> Stepped
-    ensures { λ r. ⌜ stepOf (systemOf cores gangs threads (now (priority .entry)) (now (budget .entry)) (now (gang .entry)) (now (core .entry)) (now (state .entry)) (now (number .entry)) (now (served .entry)) (now (skipped .entry)) (now (job .entry)) held (now (occupant .entry)) (now (kept .entry))) event ≡ replyOf (systemOf cores gangs threads (now (priority .entry)) (now (budget .entry)) (now (gang .entry)) (now (core .entry)) (now (state .exit)) (now (number .exit)) (now (served .exit)) (now (skipped .exit)) (now (job .exit)) (r .held) (now (occupant .exit)) (now (kept .exit))) (r .answer) ⌝ }
+    ensures { λ r. ⌜ StepInPlace
+        (systemOf sizes (now (priority .entry)) (now (budget .entry)) (now (gang .entry)) (now (core .entry)) (now (state .entry))
+        (now (number .entry)) (now (served .entry)) (now (skipped .entry)) (now (job .entry)) held (now (occupant .entry)) (now (kept .entry))) event
+        (systemOf sizes (now (priority .entry)) (now (budget .entry)) (now (gang .entry)) (now (core .entry)) (now (state .exit))
+        (now (number .exit)) (now (served .exit)) (now (skipped .exit)) (now (job .exit)) (r .held) (now (occupant .exit)) (now (kept .exit))) r ⌝ }
 {
     match event {
         Event::Release(g) => {
             release(
-                gangs,
-                threads,
+                sizes,
                 gang,
                 core,
                 state,
@@ -260,26 +266,16 @@ pub fn step<'a>(
                 g,
             )
         }
-        Event::Finish(t) => leave(threads, core, occupant, state, held, t, table::FINISHED),
-        Event::Wait(t) => leave(threads, core, occupant, state, held, t, table::WAITING),
-        Event::Wake(t) => wake(threads, core, state, held, t),
-        Event::Serve(c) => serve(
-            cores,
-            threads,
-            priority,
-            gang,
-            core,
-            state,
-            occupant,
-            held,
-            c,
-        ),
+        Event::Finish(t) => leave(sizes, core, occupant, state, held, t, table::FINISHED),
+        Event::Wait(t) => leave(sizes, core, occupant, state, held, t, table::WAITING),
+        Event::Wake(t) => wake(sizes, core, state, held, t),
+        Event::Serve(c) => serve(sizes, priority, gang, core, state, occupant, held, c),
         Event::Traffic {
             core: c,
             transactions,
         } => Stepped {
             held,
-            answer: traffic(cores, budget, occupant, kept, held, c, transactions),
+            answer: traffic(sizes, budget, occupant, kept, held, c, transactions),
         },
         Event::Tick => {
             tick(kept);
@@ -289,67 +285,4 @@ pub fn step<'a>(
             }
         }
     }
-}
-
-// Any event: 14 first.
-pub fn apply<'a>(
-    cores: u8,
-    gangs: u8,
-    threads: u8,
-    priority: &'a [u8; 32],
-    budget: &'a [u32; 32],
-    gang: &'a [u8; 128],
-    core: &'a [u8; 128],
-    state: &'a mut [u8; 128],
-    number: &'a mut [u32; 32],
-    served: &'a mut [u32; 32],
-    skipped: &'a mut [u32; 32],
-    job: &'a mut [u32; 32],
-    held: Held,
-    occupant: &'a mut [u8; 32],
-    kept: &'a mut [u32; 32],
-    event: Event,
-) -> Stepped
-    ensures { λ r. ⌜ applyOf (systemOf cores gangs threads (now (priority .entry)) (now (budget .entry)) (now (gang .entry)) (now (core .entry)) (now (state .entry)) (now (number .entry)) (now (served .entry)) (now (skipped .entry)) (now (job .entry)) held (now (occupant .entry)) (now (kept .entry))) event ≡ replyOf (systemOf cores gangs threads (now (priority .entry)) (now (budget .entry)) (now (gang .entry)) (now (core .entry)) (now (state .exit)) (now (number .exit)) (now (served .exit)) (now (skipped .exit)) (now (job .exit)) (r .held) (now (occupant .exit)) (now (kept .exit))) (r .answer) ⌝ }
-{
-    if !crate::parts_ok(
-        cores,
-        gangs,
-        threads,
-        priority,
-        budget,
-        gang,
-        core,
-        state,
-        number,
-        served,
-        skipped,
-        job,
-        held.holder,
-        held.locked,
-        held.blocked,
-        held.owing,
-        occupant,
-        kept,
-    ) {
-        return refused(held, Refusal::NotWellFormed);
-    }
-    step(
-        cores,
-        gangs,
-        threads,
-        priority,
-        budget,
-        gang,
-        core,
-        state,
-        number,
-        served,
-        skipped,
-        job,
-        held,
-        occupant,
-        kept,
-        event,
-    )
 }

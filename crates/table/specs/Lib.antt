@@ -1,10 +1,7 @@
 pub mod Numbers
 pub mod Order
-pub mod OrderLaws
-pub mod FirstLaws
 pub mod Occurs
 pub mod Rules
-pub mod Parts
 pub mod TableOk
-pub mod TableLaws
-pub mod Passes
+pub mod First
+pub mod laws

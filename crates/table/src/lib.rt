@@ -1,6 +1,5 @@
 // The table of cores, gangs and pinned threads: its rules, the order of its gangs, and a core's first ready thread.
 ghost use mathlib.Core.Path.{_≡_};
-ghost use lib.ListN.{getD};
 ghost use Rattle.table.specs.Rules.{emptyTable};
 
 mod order;
@@ -30,12 +29,18 @@ pub const READY: u8 = 1;
 
 pub const WAITING: u8 = 2;
 
-// Each gang's priority and budget, and each thread's gang and the core that it is pinned to.
+// How many cores, gangs and threads there are.
 #[repr(C)]
-pub struct Table {
+pub struct Sizes {
     pub cores: u8,
     pub gangs: u8,
     pub threads: u8,
+}
+
+// Each gang's priority and budget, and each thread's gang and the core that it is pinned to.
+#[repr(C)]
+pub struct Table {
+    pub sizes: Sizes,
     pub priority: [u8; 32],
     pub budget: [u32; 32],
     pub gang: [u8; 128],
@@ -48,21 +53,15 @@ impl Table {
         ensures { λ r. ⌜ r ≡ emptyTable ⌝ }
     {
         Table {
-            cores: 0,
-            gangs: 0,
-            threads: 0,
+            sizes: Sizes {
+                cores: 0,
+                gangs: 0,
+                threads: 0,
+            },
             priority: [0; 32],
             budget: [0; 32],
             gang: [0; 128],
             core: [0; 128],
         }
     }
-}
-
-// What stands at place i, and 0 past the last place: so that no reader needs a bound.
-fn at(xs: &[u8], i: u8) -> u8
-    ensures { λ r. ⌜ r ≡ getD (now (xs .entry)) i 0 ⌝ }
-{
-    let i = i as usize;
-    if i < xs.len() { xs[i] } else { 0 }
 }

@@ -1,13 +1,14 @@
 // The table rules, each tested in one pass.
 ghost use mathlib.Core.Path.{_≡_};
-ghost use Rattle.table.specs.Passes.{Marked};
+ghost use Rattle.table.specs.Occurs.{Marked};
 ghost use Rattle.table.specs.Rules.{within, sizesOk, gangOk, gangsOk, threadOk, threadsOk, taken, distinct, manned, tableOf, tableOk};
 use crate::MAX_BUDGET;
 use crate::MAX_CORES;
 use crate::MAX_GANGS;
 use crate::MAX_THREADS;
+use crate::Sizes;
 use crate::TOP_PRIORITY;
-use crate::at;
+use lists::at;
 
 // Whether some gang below `gangs` has priority p.
 pub fn priority_taken(priority: &[u8; 32], gangs: u8, p: u8) -> bool
@@ -28,16 +29,16 @@ fn within(low: u8, x: u8, high: u8) -> bool
 }
 
 // With no core there is nothing; else there are cores and gangs, and no more of anything than there is room for.
-fn sizes_ok(cores: u8, gangs: u8, threads: u8) -> bool
-    ensures { λ r. ⌜ r ≡ sizesOk cores gangs threads ⌝ }
+fn sizes_ok(sizes: Sizes) -> bool
+    ensures { λ r. ⌜ r ≡ sizesOk sizes ⌝ }
 {
-    if cores == 0 {
-        return gangs == 0 && threads == 0;
+    if sizes.cores == 0 {
+        return sizes.gangs == 0 && sizes.threads == 0;
     }
-    if cores > MAX_CORES {
+    if sizes.cores > MAX_CORES {
         return false;
     }
-    within(1, gangs, MAX_GANGS) && threads <= MAX_THREADS
+    within(1, sizes.gangs, MAX_GANGS) && sizes.threads <= MAX_THREADS
 }
 
 // A gang's priority and budget are in range, and an unused place is zero.
@@ -72,19 +73,13 @@ fn thread_ok(t: u8, threads: u8, gang: u8, gangs: u8, core: u8, cores: u8) -> bo
     gang == 0 && core == 0
 }
 
-fn threads_ok<'a>(
-    gang: &'a [u8; 128],
-    core: &'a [u8; 128],
-    threads: u8,
-    gangs: u8,
-    cores: u8,
-) -> bool
-    ensures { λ r. ⌜ r ≡ threadsOk (now (gang .entry)) (now (core .entry)) threads gangs cores ⌝ }
+fn threads_ok<'a>(gang: &'a [u8; 128], core: &'a [u8; 128], sizes: Sizes) -> bool
+    ensures { λ r. ⌜ r ≡ threadsOk (now (gang .entry)) (now (core .entry)) sizes ⌝ }
 {
     let mut ok = true;
     for t in 0..MAX_THREADS {
         let i = t as usize;
-        ok = ok & thread_ok(t, threads, gang[i], gangs, core[i], cores);
+        ok = ok & thread_ok(t, sizes.threads, gang[i], sizes.gangs, core[i], sizes.cores);
     }
     ok
 }
@@ -130,27 +125,25 @@ pub fn manned(gang: &[u8; 128], gangs: u8, threads: u8) -> bool
 
 // Whether the table of these parts is empty or obeys the table rules, with every unused place zero.
 pub fn table_ok<'a>(
-    cores: u8,
-    gangs: u8,
-    threads: u8,
+    sizes: Sizes,
     priority: &'a [u8; 32],
     budget: &'a [u32; 32],
     gang: &'a [u8; 128],
     core: &'a [u8; 128],
 ) -> bool
-    ensures { λ r. ⌜ r ≡ tableOk (tableOf cores gangs threads (now (priority .entry)) (now (budget .entry)) (now (gang .entry)) (now (core .entry))) ⌝ }
+    ensures { λ r. ⌜ r ≡ tableOk (tableOf sizes (now (priority .entry)) (now (budget .entry)) (now (gang .entry)) (now (core .entry))) ⌝ }
 {
-    if !sizes_ok(cores, gangs, threads) {
+    if !sizes_ok(sizes) {
         return false;
     }
-    if !gangs_ok(priority, budget, gangs) {
+    if !gangs_ok(priority, budget, sizes.gangs) {
         return false;
     }
-    if !threads_ok(gang, core, threads, gangs, cores) {
+    if !threads_ok(gang, core, sizes) {
         return false;
     }
-    if !distinct(priority, gangs) {
+    if !distinct(priority, sizes.gangs) {
         return false;
     }
-    manned(gang, gangs, threads)
+    manned(gang, sizes.gangs, sizes.threads)
 }

@@ -1,32 +1,37 @@
--- The list of lengths, walked from a place on.
-use Prim.Native.Nat.{ℕ, _+_, _<_}
-use mathlib.Core.Path.{_≡_}
-use mathlib.Core.Bool.{true}
-use mathlib.Core.List.{List}
-use lib.ListN.{length, getD, drop}
-use lib.Seq.{drop-cons}
+-- A loop over the list of lengths that looks for the first pair that passes a test.
+use Prim.Native.Nat.{ℕ, _+_, _≤_, _<_}
+use mathlib.Core.Path.{_≡_, refl, sym, ap, _∙_}
+use mathlib.Core.Bool.{Bool, true, false}
+use mathlib.Core.List.{List, []}
 use native.Mathlib.Numerals.{add-one}
-use borrow.Author.Tests.{eq-eqb, ne-eqb}
+use native.Mathlib.Omega.{arith}
+use lib.ListN.{length, getD, drop, drop-of-length-le}
+use lib.Seq.{drop-cons}
 use Rattle.wire.specs.declared.kinds.Pair.{Pair}
-use Rattle.wire.specs.Kinds.{fitsIn, lengthIn}
+use Rattle.wire.specs.Kinds.{firstPair}
 
--- what stands past the list's end
-abbrev pub none : Pair
-none = record { kind = 0; len = 0 }
+-- the pair at a place; past the list's end a pair that is no kind's
+abbrev pub pairAt : List Pair → ℕ → Pair
+pairAt ps i = getD ps i record { kind = 0; len = 0 }
 
-module _ (k n i : ℕ) (ps : List Pair) (h : i < length ps) where
-  pub fits-here : getD ps i none .kind ≡ k → getD ps i none .len ≡ n → fitsIn k n (drop i ps) ≡ true
-  fits-here a b = rw (drop-cons ps i none h, eq-eqb _ _ a, eq-eqb _ _ b)
+module _ {A : Type 0} (passes : Pair → Bool) (says : Pair → A) (other : A) (ps : List Pair) where
+  -- what the loop keeps: the pairs from i on decide, as the whole list does
+  pub record Decides (i : ℕ) : Type 0 where
+    pub inside : i ≤ length ps
+    pub same : firstPair passes says other (drop i ps) ≡ firstPair passes says other ps
 
-  pub other-kind : (getD ps i none .kind ≡ k → ⊥) → fitsIn k n (drop i ps) ≡ fitsIn k n (drop (i + 1) ps)
-  other-kind a = rw (add-one, drop-cons ps i none h, ne-eqb _ _ a)
+  pub starts : Decides 0
+  starts = record { inside = omega arith; same = refl }
 
-  pub other-length : getD ps i none .kind ≡ k → (getD ps i none .len ≡ n → ⊥) → fitsIn k n (drop i ps) ≡ fitsIn k n (drop (i + 1) ps)
-  other-length a b = rw (add-one, drop-cons ps i none h, eq-eqb _ _ a, ne-eqb _ _ b)
+  module _ (i : ℕ) (d : Decides i) where
+    -- the pair at i passes,
+    pub finds : i < length ps → passes (pairAt ps i) ≡ true → says (pairAt ps i) ≡ firstPair passes says other ps
+    finds h e = sym (rw (drop-cons ps i (pairAt [] 0) h, e)) ∙ d .same
 
-module _ (k i : ℕ) (ps : List Pair) (h : i < length ps) where
-  pub length-here : getD ps i none .kind ≡ k → lengthIn k (drop i ps) ≡ getD ps i none .len
-  length-here a = rw (drop-cons ps i none h, eq-eqb _ _ a)
+    -- or it doesn't,
+    pub passes-by : i < length ps → passes (pairAt ps i) ≡ false → Decides (i + 1)
+    passes-by h e = record { inside = omega arith; same = sym (rw (add-one, drop-cons ps i (pairAt [] 0) h, e)) ∙ d .same }
 
-  pub length-further : (getD ps i none .kind ≡ k → ⊥) → lengthIn k (drop i ps) ≡ lengthIn k (drop (i + 1) ps)
-  length-further a = rw (add-one, drop-cons ps i none h, ne-eqb _ _ a)
+    -- or there is none
+    pub finds-none : length ps ≤ i → other ≡ firstPair passes says other ps
+    finds-none h = sym (ap (firstPair passes says other) (drop-of-length-le ps h)) ∙ d .same

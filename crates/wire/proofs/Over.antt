@@ -2,7 +2,7 @@
 use Prim.Native.Nat.{ℕ, _≤_, _<_, _+_}
 use mathlib.Core.Path.{_≡_}
 use mathlib.Core.List.{List, _++_}
-use lib.ListN.{length, getD, drop, take, set, length-append, length-take, length-drop}
+use lib.ListN.{length, getD, drop, take, set}
 use lib.Seq.{paste-suc, take-length}
 use native.Mathlib.Nat.{zero-add}
 use native.Mathlib.Numerals.{add-one}
@@ -16,9 +16,6 @@ over b o i = take i b ++ drop i o
 
 pub over-more : (b o : List ℕ) (i : ℕ) → i < length b → i < length o → set (over b o i) i (getD b i 0) ≡ over b o (i + 1)
 over-more b o i hb ho = rw add-one (simp zero-add at (paste-suc o 0 b i 0 (omega arith) hb))
-
-pub over-length : (b o : List ℕ) (i : ℕ) → i ≤ length b → i ≤ length o → length (over b o i) ≡ length o
-over-length b o i hb ho = simp (length-append, length-take, length-drop) (omega arith)
 
 pub over-all : (b o : List ℕ) → length b ≤ length o → over b o (length b) ≡ putOver b o
 unfolding putOver

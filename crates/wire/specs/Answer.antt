@@ -1,7 +1,7 @@
 -- Document 01, "ANSWER": the fields of each answer, the record's bytes, and what a writer leaves in the lent output.
 use Prim.Native.Nat.{ℕ}
 use mathlib.Core.List.{List, [], _∷_, _++_}
-use mathlib.Core.Bool.{Bool, cond}
+use mathlib.Core.Bool.{cond}
 use lib.ListN.{length, drop}
 use lib.Dec.{leb}
 use Rattle.wire.specs.declared.answer.Answer.{Answer}

@@ -9,11 +9,9 @@ use Rattle.wire.specs.declared.event.Event.the-variants.{Release, Finish
 use Rattle.wire.specs.declared.event.NextEvent.{NextEvent}
 use Rattle.wire.specs.declared.event.NextEvent.the-variants as found
 use Rattle.wire.specs.declared.kinds.Stream.the-variants.{Events}
-use Rattle.wire.specs.declared.record.Seen.{Seen}
-use Rattle.wire.specs.declared.record.Seen.the-variants as seen
 use Rattle.wire.specs.Kinds.{kindRelease, kindFinish, kindWait, kindWake, kindServe, kindTraffic, kindTick}
 use Rattle.wire.specs.Number.{le32}
-use Rattle.wire.specs.Record.{recordAt, payloadAt}
+use Rattle.wire.specs.Record.{readFirst}
 
 -- the event of a kind and its payload
 unfoldable pub eventOf : ℕ → List ℕ → Event
@@ -36,9 +34,8 @@ kindOf (Traffic core transactions) = kindTraffic
 kindOf Tick = kindTick
 
 -- the event record at the start of some bytes
-abbrev pub eventSeen : Seen → List ℕ → NextEvent
-eventSeen (seen.Record kind next) p = found.Event (eventOf kind p) next
-eventSeen (seen.Refused refusal) p = found.Refused refusal
+abbrev pub eventFound : ℕ → List ℕ → ℕ → NextEvent
+eventFound kind payload next = found.Event (eventOf kind payload) next
 
 unfoldable pub nextEvent : List ℕ → NextEvent
-nextEvent s = eventSeen (recordAt Events s 0) (payloadAt Events s 0)
+nextEvent s = readFirst eventFound found.Refused Events s

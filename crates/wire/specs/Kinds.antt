@@ -60,15 +60,24 @@ lengths =
     ∷ pair kindAnswer 16
     ∷ []
 
+-- a walk over a list of lengths: what the first pair that passes a test says, or what is said where none does
+abbrev pub firstPair : {A : Type 0} → (Pair → Bool) → (Pair → A) → A → List Pair → A
+firstPair passes says other [] = other
+firstPair passes says other (p ∷ ps) = cond (passes p) (says p) (firstPair passes says other ps)
+
+abbrev pub isPair : ℕ → ℕ → Pair → Bool
+isPair k n p = eqb (p .kind) k && eqb (p .len) n
+
 -- n is a length of kind k
 abbrev pub fitsIn : ℕ → ℕ → List Pair → Bool
-fitsIn k n [] = false
-fitsIn k n (p ∷ ps) = cond (eqb (p .kind) k) (cond (eqb (p .len) n) true (fitsIn k n ps)) (fitsIn k n ps)
+fitsIn k n ps = firstPair (isPair k n) (λ p. true) false ps
+
+abbrev pub isOfKind : ℕ → Pair → Bool
+isOfKind k p = eqb (p .kind) k
 
 -- the first length of kind k: a writer's
 abbrev pub lengthIn : ℕ → List Pair → ℕ
-lengthIn k [] = 0
-lengthIn k (p ∷ ps) = cond (eqb (p .kind) k) (p .len) (lengthIn k ps)
+lengthIn k ps = firstPair (isOfKind k) (λ p. p .len) 0 ps
 
 -- "A table holds kinds 1 to 3"; events are kinds 16 to 22; an answer is kind 64
 unfoldable pub inStream : Stream → ℕ → Bool

@@ -2,8 +2,9 @@ pub mod Kinds
 pub mod Number
 pub mod Refusal
 pub mod Record
-pub mod RecordLaws
+pub mod Question
 pub mod Event
 pub mod Table
 pub mod Answer
 pub mod Promise
+pub mod laws

@@ -1,7 +1,9 @@
 -- Document 01, "Refusal numbers": each refusal's number.
 use Prim.Native.Nat.{ℕ}
 use Rattle.wire.specs.declared.refusal.Refusal.{Refusal}
-use Rattle.wire.specs.declared.refusal.Refusal.the-variants.{CutShort, WrongKind, WrongLength, NotCoresFirst, TooMany, OutOfRange, PriorityTaken, Unfinished, NotRunning, NotWaiting, CoreOccupied, NumbersSpent, NoRoom, NotWellFormed}
+use Rattle.wire.specs.declared.refusal.Refusal.the-variants.{CutShort, WrongKind, WrongLength, NotCoresFirst, TooMany}
+use Rattle.wire.specs.declared.refusal.Refusal.the-variants.{OutOfRange, PriorityTaken, Unfinished, NotRunning, NotWaiting}
+use Rattle.wire.specs.declared.refusal.Refusal.the-variants.{CoreOccupied, NumbersSpent, NoRoom, NotWellFormed}
 
 abbrev pub numberOf : Refusal → ℕ
 numberOf CutShort = 1

@@ -9,11 +9,9 @@ use Rattle.wire.specs.declared.table_record.TableRecord.the-variants.{Co
 use Rattle.wire.specs.declared.table_record.NextTableRecord.{NextTableRecord}
 use Rattle.wire.specs.declared.table_record.NextTableRecord.the-variants as found
 use Rattle.wire.specs.declared.kinds.Stream.the-variants as stream
-use Rattle.wire.specs.declared.record.Seen.{Seen}
-use Rattle.wire.specs.declared.record.Seen.the-variants as seen
 use Rattle.wire.specs.Kinds.{kindCores, kindGang}
 use Rattle.wire.specs.Number.{le32}
-use Rattle.wire.specs.Record.{recordAt, payloadAt}
+use Rattle.wire.specs.Record.{readFirst}
 
 -- the table record of a kind and its payload: "length 3 has no budget"
 unfoldable pub tableRecordOf : ℕ → List ℕ → TableRecord
@@ -23,9 +21,8 @@ tableRecordOf k p =
     (Thread (getD p 0 0) (getD p 1 0)))
 
 -- the table record at the start of some bytes
-abbrev pub tableRecordSeen : Seen → List ℕ → NextTableRecord
-tableRecordSeen (seen.Record kind next) p = found.Record (tableRecordOf kind p) next
-tableRecordSeen (seen.Refused refusal) p = found.Refused refusal
+abbrev pub tableRecordFound : ℕ → List ℕ → ℕ → NextTableRecord
+tableRecordFound kind payload next = found.Record (tableRecordOf kind payload) next
 
 unfoldable pub nextTableRecord : List ℕ → NextTableRecord
-nextTableRecord s = tableRecordSeen (recordAt stream.Table s 0) (payloadAt stream.Table s 0)
+nextTableRecord s = readFirst tableRecordFound found.Refused stream.Table s

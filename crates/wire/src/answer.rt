@@ -42,7 +42,7 @@ pub const ANSWER_SIZE: usize = 18;
 const YES: u8 = 1;
 
 // The refusal number of an answer, 0 where the event was accepted.
-pub fn refusal_in(answer: Answer) -> u8
+pub fn answer_refusal(answer: Answer) -> u8
     ensures { λ r. ⌜ r ≡ answerRefusal answer ⌝ }
 {
     match answer {
@@ -59,7 +59,7 @@ pub fn refusal_in(answer: Answer) -> u8
 }
 
 // The value of an answer.
-pub fn value_in(answer: Answer) -> u8
+pub fn answer_value(answer: Answer) -> u8
     ensures { λ r. ⌜ r ≡ answerValue answer ⌝ }
 {
     match answer {
@@ -73,7 +73,7 @@ pub fn value_in(answer: Answer) -> u8
 }
 
 // The number of an answer.
-pub fn number_in(answer: Answer) -> u32
+pub fn answer_number(answer: Answer) -> u32
     ensures { λ r. ⌜ r ≡ answerNumber answer ⌝ }
 {
     match answer {
@@ -91,9 +91,9 @@ pub fn record_of(answer: Answer, owing: u32, locked: u32) -> AnswerRecord
     ensures { λ r. ⌜ r ≡ recordOf answer owing locked ⌝ }
 {
     AnswerRecord {
-        refusal: refusal_in(answer),
-        value: value_in(answer),
-        number: number_in(answer),
+        refusal: answer_refusal(answer),
+        value: answer_value(answer),
+        number: answer_number(answer),
         owing,
         locked,
     }

@@ -11,8 +11,9 @@ use crate::kinds::WAIT;
 use crate::kinds::WAKE;
 use crate::number::byte_at;
 use crate::number::u32_at;
-use crate::record::HEADER;
 use crate::record::Seen;
+use crate::record::payload_of;
+use crate::record::record_at;
 use crate::refusal::Refusal;
 
 pub enum Event {
@@ -54,9 +55,10 @@ fn event_of(kind: u16, payload: &[u8]) -> Event
 pub fn next_event(s: &[u8]) -> NextEvent
     ensures { λ r. ⌜ r ≡ nextEvent (now (s .entry)) ⌝ }
 {
-    match crate::record::record_at(Stream::Events, s, 0) {
+    let seen = record_at(Stream::Events, s, 0);
+    match seen {
         Seen::Record { kind, next } => NextEvent::Event {
-            event: event_of(kind, &s[HEADER..next]),
+            event: event_of(kind, payload_of(seen, s, 0)),
             next,
         },
         Seen::Refused(refusal) => NextEvent::Refused(refusal),

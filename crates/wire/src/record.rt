@@ -1,6 +1,7 @@
 // The record question and the payload.
 ghost use mathlib.Core.Path.{_≡_};
-ghost use Rattle.wire.specs.Record.{recordAt, toldOf, payloadAt};
+ghost use Rattle.wire.specs.Record.{recordAt, recordTold, payloadOf, payloadAt};
+ghost use Rattle.wire.specs.Question.{SeenAt};
 use crate::kinds::Stream;
 use crate::refusal::Refusal;
 
@@ -49,23 +50,23 @@ pub fn record_at(stream: Stream, s: &[u8], place: usize) -> Seen
 }
 
 // What the question finds, in document 01's numbers: refusal 0 with the kind and the next place, or the refusal with both 0.
-pub struct Told {
+pub struct RecordTold {
     pub refusal: u8,
     pub kind: u16,
     pub next: usize,
 }
 
 // The numbers of what the question finds.
-pub fn told_of(seen: Seen) -> Told
-    ensures { λ r. ⌜ r ≡ toldOf seen ⌝ }
+pub fn record_told(seen: Seen) -> RecordTold
+    ensures { λ r. ⌜ r ≡ recordTold seen ⌝ }
 {
     match seen {
-        Seen::Record { kind, next } => Told {
+        Seen::Record { kind, next } => RecordTold {
             refusal: 0,
             kind,
             next,
         },
-        Seen::Refused(refusal) => Told {
+        Seen::Refused(refusal) => RecordTold {
             refusal: crate::refusal::number_of(refusal),
             kind: 0,
             next: 0,
@@ -73,12 +74,20 @@ pub fn told_of(seen: Seen) -> Told
     }
 }
 
+// The payload of the record that the question found at a place, as the very part of s; empty where it is refused.
+pub(crate) fn payload_of(seen: Seen, s: &[u8], place: usize) -> &[u8]
+    requires { ⌜ SeenAt (now s) place seen ⌝ }
+    ensures { λ r. ⌜ now r ≡ payloadOf seen (now (s .entry)) place ⌝ }
+{
+    match seen {
+        Seen::Record { kind: _, next } => &s[place + HEADER..next],
+        Seen::Refused(_) => &s[..0],
+    }
+}
+
 // The payload of the record at a place, as the very part of s; empty where the record is refused.
 pub fn payload_at(stream: Stream, s: &[u8], place: usize) -> &[u8]
     ensures { λ r. ⌜ now r ≡ payloadAt stream (now (s .entry)) place ⌝ }
 {
-    match record_at(stream, s, place) {
-        Seen::Record { kind: _, next } => &s[place + HEADER..next],
-        Seen::Refused(_) => &s[..0],
-    }
+    payload_of(record_at(stream, s, place), s, place)
 }

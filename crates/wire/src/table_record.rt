@@ -6,8 +6,9 @@ use crate::kinds::GANG;
 use crate::kinds::Stream;
 use crate::number::byte_at;
 use crate::number::u32_at;
-use crate::record::HEADER;
 use crate::record::Seen;
+use crate::record::payload_of;
+use crate::record::record_at;
 use crate::refusal::Refusal;
 
 pub enum TableRecord {
@@ -54,9 +55,10 @@ fn table_record_of(kind: u16, payload: &[u8]) -> TableRecord
 pub fn next_table_record(s: &[u8]) -> NextTableRecord
     ensures { λ r. ⌜ r ≡ nextTableRecord (now (s .entry)) ⌝ }
 {
-    match crate::record::record_at(Stream::Table, s, 0) {
+    let seen = record_at(Stream::Table, s, 0);
+    match seen {
         Seen::Record { kind, next } => NextTableRecord::Record {
-            record: table_record_of(kind, &s[HEADER..next]),
+            record: table_record_of(kind, payload_of(seen, s, 0)),
             next,
         },
         Seen::Refused(refusal) => NextTableRecord::Refused(refusal),

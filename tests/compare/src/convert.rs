@@ -21,9 +21,11 @@ const _: () = {
 pub fn to_proved(s: &model::System) -> proved::System {
     proved::System {
         table: proved::Table {
-            cores: s.cores,
-            gangs: s.gangs,
-            threads: s.threads,
+            sizes: proved::Sizes {
+                cores: s.cores,
+                gangs: s.gangs,
+                threads: s.threads,
+            },
             priority: s.priority,
             budget: s.budget,
             gang: s.thread_gang,
@@ -49,9 +51,9 @@ pub fn to_proved(s: &model::System) -> proved::System {
 
 pub fn to_model(s: &proved::System) -> model::System {
     model::System {
-        cores: s.table.cores,
-        gangs: s.table.gangs,
-        threads: s.table.threads,
+        cores: s.table.sizes.cores,
+        gangs: s.table.sizes.gangs,
+        threads: s.table.sizes.threads,
         priority: s.table.priority,
         budget: s.table.budget,
         thread_gang: s.table.gang,

@@ -40,9 +40,9 @@ void expect_u32s(const char *what, const uint32_t *seen, const uint32_t *wanted,
 
 void expect_table(const gjalvorn_table *seen, const gjalvorn_table *wanted)
 {
-    expect("table.cores", seen->cores, wanted->cores);
-    expect("table.gangs", seen->gangs, wanted->gangs);
-    expect("table.threads", seen->threads, wanted->threads);
+    expect("table.sizes.cores", seen->sizes.cores, wanted->sizes.cores);
+    expect("table.sizes.gangs", seen->sizes.gangs, wanted->sizes.gangs);
+    expect("table.sizes.threads", seen->sizes.threads, wanted->sizes.threads);
     expect_u8s("table.priority", seen->priority, wanted->priority, GJALVORN_MAX_GANGS);
     expect_u32s("table.budget", seen->budget, wanted->budget, GJALVORN_MAX_GANGS);
     expect_u8s("table.gang", seen->gang, wanted->gang, GJALVORN_MAX_THREADS);

@@ -43,9 +43,9 @@ records full_records(void)
 
 static void name_table(gjalvorn_table *table)
 {
-    table->cores = GJALVORN_MAX_CORES;
-    table->gangs = GJALVORN_MAX_GANGS;
-    table->threads = GJALVORN_MAX_THREADS;
+    table->sizes.cores = GJALVORN_MAX_CORES;
+    table->sizes.gangs = GJALVORN_MAX_GANGS;
+    table->sizes.threads = GJALVORN_MAX_THREADS;
     for (uint8_t gang = 0; gang < GJALVORN_MAX_GANGS; gang++) {
         table->priority[gang] = full_priority(gang);
         table->budget[gang] = full_budget(gang);
@@ -73,5 +73,20 @@ gjalvorn_system full_held_by(uint8_t thread)
     system.lock.holder = full_gang(thread);
     system.lock.locked = only(full_core(thread));
     system.lock.occupant[full_core(thread)] = thread;
+    return system;
+}
+
+gjalvorn_system uneven_named(void)
+{
+    gjalvorn_system system = full_named();
+    system.table.sizes.cores = UNEVEN_CORES;
+    system.table.sizes.gangs = UNEVEN_GANGS;
+    system.table.sizes.threads = UNEVEN_THREADS;
+    system.table.priority[UNEVEN_GANGS] = 0;
+    system.table.budget[UNEVEN_GANGS] = 0;
+    for (uint8_t thread = 0; thread < GJALVORN_MAX_THREADS; thread++) {
+        system.table.gang[thread] = thread < UNEVEN_THREADS ? thread % UNEVEN_GANGS : 0;
+        system.table.core[thread] = thread < UNEVEN_THREADS ? thread % UNEVEN_CORES : 0;
+    }
     return system;
 }

@@ -11,26 +11,16 @@ static void expect_found(const char *what, gjalvorn_found found, uint32_t wanted
     expect(what, found.value, wanted);
 }
 
-// A table whose numbers of cores, gangs and threads differ: the last of each is there, and the next is not.
+// The last core, gang and thread are there, and the next of each is not.
 void table_sizes_looked_at(void)
 {
-    enum { SOME_CORES = 30, SOME_GANGS = 31, SOME_THREADS = 100 };
-    gjalvorn_system system = full_named();
-    system.table.cores = SOME_CORES;
-    system.table.gangs = SOME_GANGS;
-    system.table.threads = SOME_THREADS;
-    system.table.priority[SOME_GANGS] = 0;
-    system.table.budget[SOME_GANGS] = 0;
-    for (uint8_t thread = 0; thread < GJALVORN_MAX_THREADS; thread++) {
-        system.table.gang[thread] = thread < SOME_THREADS ? thread % SOME_GANGS : 0;
-        system.table.core[thread] = thread < SOME_THREADS ? thread % SOME_CORES : 0;
-    }
-    expect("last core", gjalvorn_occupant(system, SOME_CORES - 1).refusal, GJALVORN_ACCEPTED);
-    expect("core past table.cores", gjalvorn_occupant(system, SOME_CORES).refusal, GJALVORN_OUT_OF_RANGE);
-    expect("last gang", gjalvorn_served(system, SOME_GANGS - 1).refusal, GJALVORN_ACCEPTED);
-    expect("gang past table.gangs", gjalvorn_served(system, SOME_GANGS).refusal, GJALVORN_OUT_OF_RANGE);
-    expect("last thread", gjalvorn_wake(system, SOME_THREADS - 1).answer.refusal, GJALVORN_NOT_WAITING);
-    expect("thread past table.threads", gjalvorn_wake(system, SOME_THREADS).answer.refusal, GJALVORN_OUT_OF_RANGE);
+    gjalvorn_system system = uneven_named();
+    expect("last core", gjalvorn_occupant(system, UNEVEN_CORES - 1).refusal, GJALVORN_ACCEPTED);
+    expect("core past table.sizes.cores", gjalvorn_occupant(system, UNEVEN_CORES).refusal, GJALVORN_OUT_OF_RANGE);
+    expect("last gang", gjalvorn_served(system, UNEVEN_GANGS - 1).refusal, GJALVORN_ACCEPTED);
+    expect("gang past table.sizes.gangs", gjalvorn_served(system, UNEVEN_GANGS).refusal, GJALVORN_OUT_OF_RANGE);
+    expect("last thread", gjalvorn_wake(system, UNEVEN_THREADS - 1).answer.refusal, GJALVORN_NOT_WAITING);
+    expect("thread past table.sizes.threads", gjalvorn_wake(system, UNEVEN_THREADS).answer.refusal, GJALVORN_OUT_OF_RANGE);
 }
 
 // Where one thread alone is ready, it becomes its core's occupant and its gang the holder; on every other core nothing does.
@@ -131,9 +121,9 @@ void stops_looked_at(void)
 
 static void mark_fields(uint8_t *marks)
 {
-    MARK(marks, table.cores);
-    MARK(marks, table.gangs);
-    MARK(marks, table.threads);
+    MARK(marks, table.sizes.cores);
+    MARK(marks, table.sizes.gangs);
+    MARK(marks, table.sizes.threads);
     MARK(marks, table.priority);
     MARK(marks, table.budget);
     MARK(marks, table.gang);

@@ -10,14 +10,14 @@ typedef struct theme {
 } theme;
 
 static const theme THEMES[] = {
-    {"written: table.cores, table.gangs, table.threads", table_sizes_written},
+    {"written: table.sizes.cores, gangs, threads", table_sizes_written},
     {"written: every field of a fresh system", fresh_system_written},
     {"written: the table, as it was, after events", table_kept},
     {"written: state", states_written},
     {"written: ledger.number, served, skipped, job", ledger_written},
     {"written: lock.holder, locked, blocked, owing, occupant", lock_written},
     {"written: kept", kept_written},
-    {"looked at: table.cores, table.gangs, table.threads", table_sizes_looked_at},
+    {"looked at: table.sizes.cores, gangs, threads", table_sizes_looked_at},
     {"looked at: table.gang, table.core, state", threads_looked_at},
     {"looked at: table.priority", priorities_looked_at},
     {"looked at: ledger.number, served, skipped, job", ledger_looked_at},
@@ -30,6 +30,8 @@ static const theme THEMES[] = {
     {"given: gjalvorn_reason_found", reasons},
     {"taken: gjalvorn_event", events_by_kind},
     {"lent: the parts of a system, and given: gjalvorn_outcome", events_in_place},
+    {"taken: gjalvorn_sizes", sizes_taken},
+    {"taken: gjalvorn_held, and none of its padding", held_taken},
     {"given: gjalvorn_batched, and the lent output", batch_results},
     {"given: gjalvorn_batched, with no room", batch_room},
     {"given: 14, for any bit pattern", any_bit_pattern},

@@ -24,6 +24,13 @@ static void expect_events_refused(gjalvorn_system system)
     expect_refused(gjalvorn_apply(system, (gjalvorn_event){.kind = GJALVORN_TICK}), &system);
 }
 
+static void expect_refused_in_place(gjalvorn_system system)
+{
+    gjalvorn_answered seen = {.system = system};
+    seen.answer = gjalvorn_apply_to(&seen.system, (gjalvorn_event){.kind = GJALVORN_TICK});
+    expect_refused(seen, &system);
+}
+
 static void expect_unfound(const char *what, gjalvorn_found found)
 {
     expect(what, found.refusal, GJALVORN_NOT_WELL_FORMED);
@@ -64,6 +71,7 @@ void any_bit_pattern(void)
         memset(&system, patterns[i], sizeof system);
         expect("well formed", gjalvorn_well_formed(system), false);
         expect_events_refused(system);
+        expect_refused_in_place(system);
         expect_questions_refused(system);
         expect_batch_refused(system);
     }

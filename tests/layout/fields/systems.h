@@ -20,6 +20,10 @@ gjalvorn_system full_named(void);
 // The same one with a lock that the thread's gang holds by the thread's core alone, by names.
 gjalvorn_system full_held_by(uint8_t thread);
 
+// A fresh system whose numbers of cores, gangs and threads differ, by names.
+enum { UNEVEN_CORES = 30, UNEVEN_GANGS = 31, UNEVEN_THREADS = 100 };
+gjalvorn_system uneven_named(void);
+
 // A system with no unused place and values that tell the places apart: by events, and by names.
 gjalvorn_system known_driven(void);
 gjalvorn_system known_named(void);

@@ -27,6 +27,8 @@ void answers(void);
 void reasons(void);
 void events_by_kind(void);
 void events_in_place(void);
+void sizes_taken(void);
+void held_taken(void);
 void batch_results(void);
 void batch_room(void);
 void any_bit_pattern(void);

@@ -15,9 +15,9 @@ void table_sizes_written(void)
     for (uint8_t thread = 0; thread < SOME_THREADS; thread++)
         put_thread(&table, thread % SOME_GANGS, thread);
     gjalvorn_system seen = gjalvorn_read_table(table.bytes, table.length).system;
-    expect("table.cores", seen.table.cores, SOME_CORES);
-    expect("table.gangs", seen.table.gangs, SOME_GANGS);
-    expect("table.threads", seen.table.threads, SOME_THREADS);
+    expect("table.sizes.cores", seen.table.sizes.cores, SOME_CORES);
+    expect("table.sizes.gangs", seen.table.sizes.gangs, SOME_GANGS);
+    expect("table.sizes.threads", seen.table.sizes.threads, SOME_THREADS);
 }
 
 void fresh_system_written(void)

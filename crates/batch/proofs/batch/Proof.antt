@@ -1,7 +1,7 @@
 -- `batch::batch` meets its contract: the run on a well-formed system, and 14 on any other.
 use mathlib.Core.Path.{refl, sym, _∙_}
 use borrow.Author.Needs.{needs}
-use Rattle.batch.specs.BatchCases.{batch-well, batch-ill}
+use Rattle.batch.specs.laws.BatchCases.{batch-well, batch-ill}
 use Rattle.batch.proofs.batch.Statement.{statement}
 use Rattle.batch.proofs.batch.Tie as tie
 

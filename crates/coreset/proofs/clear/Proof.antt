@@ -4,8 +4,8 @@ use mathlib.Core.Path.{ap, sym, _∙_}
 use Prim.Native.Nat.{ℕ, _-_}
 use lib.Bits.{bitAnd}
 use Rattle.coreset.specs.Set.{withoutCore}
-use Rattle.coreset.specs.Bits.{and-put-at, shifted-one}
-use Rattle.coreset.specs.Laws.{has-beyond, without-absent}
+use Rattle.coreset.specs.laws.Bits.{and-put-at, shifted-one}
+use Rattle.coreset.specs.laws.Members.{has-beyond, without-absent}
 use Rattle.coreset.proofs.clear.Statement.{statement}
 use Rattle.coreset.proofs.clear.Tie as tie
 

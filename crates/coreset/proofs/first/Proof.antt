@@ -3,7 +3,7 @@ use mathlib.Core.Path.{sym, ap, _∙_}
 use native.Mathlib.Omega.{arith}
 use lib.Count.{trailing-le}
 use Rattle.coreset.specs.Set.{lowest}
-use Rattle.coreset.specs.Counting.{lowest-none, lowest-some}
+use Rattle.coreset.specs.laws.Counting.{lowest-none, lowest-some}
 use Rattle.coreset.proofs.first.Statement.{statement}
 use Rattle.coreset.proofs.first.Tie as tie
 

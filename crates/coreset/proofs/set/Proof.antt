@@ -4,8 +4,8 @@ use mathlib.Core.Path.{ap, sym, _∙_}
 use Prim.Native.Nat.{ℕ}
 use lib.Bits.{bitOr}
 use Rattle.coreset.specs.Set.{withCore}
-use Rattle.coreset.specs.Bits.{or-put, shifted-one}
-use Rattle.coreset.specs.Laws.{within-below, within-beyond}
+use Rattle.coreset.specs.laws.Bits.{or-put, shifted-one}
+use Rattle.coreset.specs.laws.Members.{within-below, within-beyond}
 use Rattle.coreset.proofs.set.Statement.{statement}
 use Rattle.coreset.proofs.set.Tie as tie
 

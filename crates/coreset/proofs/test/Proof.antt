@@ -5,7 +5,7 @@ use Prim.Native.Nat.{ℕ, _/_, _^_}
 use lib.Bits.{and-mask}
 use lib.Dec.{eqb}
 use Rattle.coreset.specs.Set.{has, bit}
-use Rattle.coreset.specs.Laws.{has-beyond}
+use Rattle.coreset.specs.laws.Members.{has-beyond}
 use Rattle.coreset.proofs.test.Statement.{statement}
 use Rattle.coreset.proofs.test.Tie as tie
 

@@ -9,8 +9,8 @@ use Rattle.ledger.proofs.all_zero.Statement.{statement}
 use Rattle.ledger.proofs.all_zero.Tie as tie
 
 -- an `&&` gives its second part where the first holds, and the first where that fails
-both : (a b f : Bool) → a ≡ true → f ≡ b → f ≡ (a && b)
-both a b f e q = rw e q
+second : (a b f : Bool) → a ≡ true → f ≡ b → f ≡ (a && b)
+second a b f e q = rw e q
 
 first : (a b f : Bool) → a ≡ false → f ≡ a → f ≡ (a && b)
 first a b f e q = rw e (q ∙ e)
@@ -19,7 +19,7 @@ two : (c : tie.Joined1) → c .if1 .if2 ≡ (eqb (c .before .args .number) 0 && 
 two c =
     let a = c .before .args in
     ⊎-elim
-    (λ w. both (eqb (a .number) 0) (eqb (a .served) 0) (c .if1 .if2) (eq-eqb (a .number) 0 (w .0 .taken)) (w .1))
+    (λ w. second (eqb (a .number) 0) (eqb (a .served) 0) (c .if1 .if2) (eq-eqb (a .number) 0 (w .0 .taken)) (w .1))
     (λ w. first (eqb (a .number) 0) (eqb (a .served) 0) (c .if1 .if2) (ne-eqb (a .number) 0 (w .0 .left)) (w .1))
     (c .if1 .came)
 
@@ -27,7 +27,7 @@ three : (c : tie.Joined2) → c .if2 .if3 ≡ (c .before .if1 .if2 && eqb (c .be
 three c =
     let b = c .before .if1 .if2 in
     let z = eqb (c .before .before .args .skipped) 0 in
-    ⊎-elim (λ w. both b z (c .if2 .if3) (w .0 .taken) (w .1)) (λ w. first b z (c .if2 .if3) (w .0 .left) (w .1)) (c .if2 .came)
+    ⊎-elim (λ w. second b z (c .if2 .if3) (w .0 .taken) (w .1)) (λ w. first b z (c .if2 .if3) (w .0 .left) (w .1)) (c .if2 .came)
 
 returns : tie.Need-returns
 unfolding allZero

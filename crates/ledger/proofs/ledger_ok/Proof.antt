@@ -1,23 +1,19 @@
 -- `ledger::ledger_ok` meets its contract. The loop keeps whether every place below g obeys its rule.
 use borrow.Author.Needs.{needs}
-use Prim.Native.Nat.{_≤_, _-_}
-use mathlib.Core.Path.{_≡_, refl, sym, ap₂, _∙_}
-use mathlib.Core.Bool.{_&&_}
-use native.Mathlib.Omega.{arith}
-use Rattle.ranges.specs.Range.{every, every-more}
-use Rattle.ledger.specs.WellFormed.{gangPlace, ledgerOf, ledgerOk}
+use Prim.Native.Nat.{_-_}
+use Rattle.ranges.specs.laws.Pass.{Passed, passed-none, passed-more, passed-all}
+use Rattle.ledger.specs.WellFormed.{ledgerPlace, ledgerOf, ledgerOk}
 use Rattle.ledger.proofs.ledger_ok.Statement.{statement}
 use Rattle.ledger.proofs.ledger_ok.Tie as tie
 
 abbrev Inv-loop : tie.InvT-loop
-Inv-loop number served skipped job gangs ok₀ g₀ ok g = (g ≤ 32) × (ok ≡ every g (gangPlace gangs (ledgerOf number served skipped job)))
+Inv-loop number served skipped job gangs ok₀ g₀ ok g = Passed 32 (ledgerPlace gangs (ledgerOf number served skipped job)) g ok
 
 abbrev μ-loop : tie.MeasureT-loop
 μ-loop number served skipped job gangs ok₀ g₀ ok g = 32 - g
 
 loop-holds : tie.Need-loop-holds Inv-loop μ-loop
-unfolding every
-loop-holds c = (omega arith, refl)
+loop-holds c = passed-none _ _
 
 cast-at : tie.Need-cast-at Inv-loop μ-loop
 cast-at c = search needs
@@ -56,14 +52,14 @@ loop-less : tie.Need-loop-less Inv-loop μ-loop
 loop-less c = search needs
 
 loop-again : tie.Need-loop-again Inv-loop μ-loop
-unfolding gangPlace
-loop-again c = (omega arith, ap₂ _&&_ (c .before .before .before .before .before .before .loop .inv .1) (c .place-ok .ensures) ∙ sym (every-more _ _))
+unfolding ledgerPlace
+loop-again c =
+    let turn = c .before .before .before .before .before in
+    passed-more (turn .before .loop .inv) (turn .loop-test .taken) (c .place-ok .ensures)
 
 returns : tie.Need-returns Inv-loop μ-loop
 unfolding ledgerOk
-returns c =
-    let e : c .before .loop .g ≡ 32 = omega arith in
-    rw e at (c .before .loop .inv .1)
+returns c = passed-all (c .before .loop .inv) (c .loop-test .left)
 
 pub ledger-ok-spec : {M : Type 1} → statement M
 ledger-ok-spec =

@@ -1,7 +1,7 @@
 -- `ledger::raised` meets its contract: below the last number there is room for one more.
 use borrow.Author.Needs.{needs}
 use mathlib.Core.Path.{sym}
-use Rattle.ledger.specs.LedgerLaws.{raised-below, raised-last}
+use Rattle.ledger.specs.laws.Ledger.{raised-below, raised-last}
 use Rattle.ledger.proofs.raised.Statement.{statement}
 use Rattle.ledger.proofs.raised.Tie as tie
 

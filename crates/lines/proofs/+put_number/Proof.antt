@@ -11,8 +11,8 @@ use borrow.Author.Needs.{needs}
 use borrow.Author.Tests.{ltb-true}
 use borrow.Fn.Kinds.{In}
 use borrow.Fn.PlainCycle.{Measures, is, falls, and}
-use Rattle.lines.specs.NumberLaws.{number-none, number-one, number-more}
-use Rattle.lines.specs.PutLaws.{put-none, put-byte, put-put, put-as}
+use Rattle.lines.specs.laws.Number.{numeral-none, numeral-one, numeral-more}
+use Rattle.lines.specs.laws.Put.{put-none, put-byte, put-put, put-as}
 use Rattle.lines.proofs.put_number.Reads as reads
 use Rattle.lines.proofs.put_number.Kinds as kinds
 use Rattle.lines.proofs.+put_number.Lts-put_number as lts
@@ -40,7 +40,7 @@ claims t = (glyph-reads.Asked, glyph-reads.Learnt, fewer t, reads.Post)
 returns : (t : ℕ) → lts.Need-returns (claims t) (known t) reads.Post
 returns t c =
     let a = c .before .before .args in
-    let e = number-none (a .base) (a .short) (a .places) (a .n) (c .if1 .taken) in
+    let e = numeral-none (a .base) (a .short) (a .places) (a .n) (c .if1 .taken) in
     put-as (put-none (now (a .out)) (a .at)) (sym e) (omega arith)
 
 glyph-requires : (t : ℕ) → lts.Need-glyph-requires (claims t) (known t) reads.Post
@@ -61,7 +61,7 @@ returns-2 : (t : ℕ) → lts.Need-returns-2 (claims t) (known t) reads.Post
 returns-2 t c =
     let a = c .before .before .before .before .before .args in
     let one : (a .short && ltb (a .n) (a .base)) ≡ true = rw (c .before .before .if2 .taken, c .before .if3 .taken) in
-    let e = number-one (a .base) (a .short) (a .places) (a .n) (c .before .before .before .if1 .left) one in
+    let e = numeral-one (a .base) (a .short) (a .places) (a .n) (c .before .before .before .if1 .left) one in
     put-as (put-byte (now (a .out)) (a .at) (c .glyph .result) (omega arith)) (rw (e, c .glyph .ensures)) (omega arith)
 
 div-put-number : (t : ℕ) → lts.Need-div-put-number (claims t) (known t) reads.Post
@@ -96,7 +96,7 @@ returns-3 t c =
     let p = c .before .before .before .put-number in
     let join = c .before .before .before .before .before in
     let more : (a .short && ltb (a .n) (a .base)) ≡ false = ⊎-elim (λ w. rw (w .0 .taken, w .1 .left)) (λ w. rw (w .left)) (join .if2 .came) in
-    let e = number-more (a .base) (a .short) (a .places) (a .n) (join .before .if1 .left) more in
+    let e = numeral-more (a .base) (a .short) (a .places) (a .n) (join .before .if1 .left) more in
     let last = put-byte (p .last .0) (p .result) (c .glyph2 .result) (search needs) in
     put-as (put-put (p .ensures) last (omega arith)) (rw (e, c .glyph2 .ensures)) (omega arith)
 

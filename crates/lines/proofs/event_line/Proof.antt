@@ -36,10 +36,14 @@ put-hex-requires-2 : tie.Need-put-hex-requires-2
 put-hex-requires-2 c κs = search needs
 
 put-holder-requires : tie.Need-put-holder-requires
-put-holder-requires c κs = omega (arith, c .before .before .before, c .before .before .before .before .before .before .before .before .before)
+put-holder-requires c κs =
+    let owing = c .before .before .before in
+    omega (arith, owing, owing .before .before .before .before .before .before)
 
 element-write-out : tie.Need-element-write-out
-element-write-out c = omega (arith, c .before .before .before .before, c .before .before .before .before .before .before .before .before .before .before)
+element-write-out c =
+    let owing = c .before .before .before .before in
+    omega (arith, owing, owing .before .before .before .before .before .before)
 
 add-result : tie.Need-add-result
 add-result c = omega (arith, element-write-out c)

@@ -4,7 +4,7 @@ use mathlib.Core.Path.{sym, _∙_}
 use native.Mathlib.Omega.{arith}
 use borrow.Author.Needs.{needs}
 use lib.ListN.{length}
-use Rattle.wire.specs.RecordLaws.{within}
+use Rattle.wire.specs.Question.{record-whole}
 use Rattle.wire.specs.declared.kinds.Stream.the-variants as stream
 use Rattle.listed.proofs.Walked.{Walked, start, ends, stops, goes}
 use Rattle.listed.proofs.events_start.Statement.{statement}
@@ -42,7 +42,7 @@ loop-less : tie.Need-loop-less Inv-loop μ-loop
 loop-less c =
     let asked = c .before .before .before in
     let l = asked .before .before .loop in
-    omega (arith, within stream.Table _ (l .at) _ _ (sym (asked .record-at .ensures) ∙ c .before .seen .given .1))
+    omega (arith, record-whole stream.Table _ (l .at) (sym (asked .record-at .ensures) ∙ c .before .seen .given .1))
 
 loop-again : tie.Need-loop-again Inv-loop μ-loop
 loop-again c =

@@ -3,7 +3,7 @@ use mathlib.Core.Path.{sym}
 use native.Mathlib.Omega.{arith}
 use borrow.Author.Needs.{needs}
 use denote.Ref.{now}
-use Rattle.listed.specs.StartLaws.{split-short, split-below, split-here}
+use Rattle.listed.specs.laws.Start.{split-short, split-below, split-here}
 use Rattle.listed.proofs.split_at.Statement.{statement}
 use Rattle.listed.proofs.split_at.Tie as tie
 

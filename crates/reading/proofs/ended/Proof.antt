@@ -1,7 +1,7 @@
 -- `reading::ended`: what the end comes to says which case of `told` holds.
 use mathlib.Core.Path.{sym, _∙_}
 use borrow.Author.Needs.{needs}
-use Rattle.reading.specs.ReadingLaws.{ended-by}
+use Rattle.reading.specs.laws.Reading.{ended-by}
 use Rattle.reading.proofs.ended.Statement.{statement}
 use Rattle.reading.proofs.ended.Tie as tie
 

@@ -6,17 +6,18 @@ use native.Mathlib.Omega.{arith}
 use borrow.Author.Needs.{needs}
 use denote.Ref.{now}
 use lib.ListN.{length, take, drop}
-use Rattle.wire.specs.RecordLaws.{Within}
+use Rattle.wire.specs.Question.{WholeRecord}
 use Rattle.table.specs.declared.Table.{Table}
-use Rattle.reading.specs.Parts.{tableWith, takenOf}
-use Rattle.reading.specs.Turn.{Turn, turnOf}
+use Rattle.table.specs.Rules.{tableOf}
+use Rattle.reading.specs.Parts.{takenWith}
+use Rattle.reading.specs.Turn.{TableTurn, tableTurn}
 use Rattle.reading.proofs.Sofar.{Sofar, start, ends, turn, read, unread, stops, takes, goes}
 use Rattle.reading.proofs.read_with.Statement.{statement}
 use Rattle.reading.proofs.read_with.Tie as tie
 
 abbrev Inv-loop : tie.InvT-loop
 Inv-loop default bytes sizes₀ priority₀ budget₀ gang₀ core₀ at₀ sizes priority budget gang core at =
-    Sofar default bytes (tableWith sizes priority budget gang core) at
+    Sofar default bytes (tableOf sizes priority budget gang core) at
 
 abbrev μ-loop : tie.MeasureT-loop
 μ-loop default bytes sizes₀ priority₀ budget₀ gang₀ core₀ at₀ sizes priority budget gang core at =
@@ -51,7 +52,7 @@ refused-at-requires c κs = tt
 
 -- the table that the parts make up where a turn begins
 abbrev so-far : tie.At-loop Inv-loop μ-loop → Table
-so-far c = tableWith (c .loop .sizes) (c .loop .priority) (c .loop .budget) (c .loop .gang) (c .loop .core)
+so-far c = tableOf (c .loop .sizes) (c .loop .priority) (c .loop .budget) (c .loop .gang) (c .loop .core)
 
 -- what a record that was found came to
 module _ (c : tie.After-take Inv-loop μ-loop) where
@@ -64,12 +65,12 @@ module _ (c : tie.After-take Inv-loop μ-loop) where
   abbrev bytes : List ℕ
   bytes = now (loop .before .before .args .bytes)
 
-  abbrev its : Turn
+  abbrev its : TableTurn
   its =
       turn (c .before .before .before .before .before .before .«record» .given .0 .1 .0)
-      (takenOf (c .take .result) (c .take .last .1 .1 .0) (c .take .last .1 .1 .1 .0) (c .take .last .1 .1 .1 .1 .0) (c .take .last .1 .1 .1 .1 .1 .0))
+      (takenWith (c .take .result) (c .take .last .1 .1 .0) (c .take .last .1 .1 .1 .0) (c .take .last .1 .1 .1 .1 .0) (c .take .last .1 .1 .1 .1 .1 .0))
 
-  turned : its ≡ turnOf (loop .before .before .args .default) (so-far loop) (take (length bytes - loop .loop .at) (drop (loop .loop .at) bytes))
+  turned : its ≡ tableTurn (loop .before .before .args .default) (so-far loop) (take (length bytes - loop .loop .at) (drop (loop .loop .at) bytes))
   turned = read _ _ _ _ _ _ (sym (asked .next-table-record .ensures) ∙ c .before .before .before .before .before .before .«record» .given .1) (c .take .ensures)
 
 returns : tie.Need-returns Inv-loop μ-loop
@@ -86,7 +87,7 @@ module _ (c : tie.After-more Inv-loop μ-loop) where
   abbrev took : tie.After-take Inv-loop μ-loop
   took = c .before .before .before
 
-  inside : Within (drop (loop took .loop .at) (bytes took)) 0 (its took .size)
+  inside : WholeRecord (drop (loop took .loop .at) (bytes took)) 0 (its took .size)
   inside = takes _ _ (so-far (loop took)) (loop took .loop .at) (loop took .loop .inv) (asked took .before .before .loop-test .taken) (its took) (turned took) (c .before .enum-told .given .1)
 
   next : Sofar (loop took .before .before .args .default) (bytes took) (its took .taken .table) (loop took .loop .at + its took .size)

@@ -7,12 +7,12 @@ use Rattle.coreset.specs.Set.{has}
 use Rattle.system.specs.declared.System.{System}
 use Rattle.system.specs.System.{coreIn, gangIn, firstIn, aheadIn}
 use Rattle.reason.specs.declared.Reason.the-variants as reason
-use Rattle.reason.specs.WhyLaws.{ready-owes, ready-behind, ready-first, outranked-free, outranked-ahead, outranked-not}
+use Rattle.reason.specs.laws.Why.{ready-owes, ready-behind, ready-not-behind, outranked-free, outranked-ahead, outranked-not}
 use Rattle.reason.proofs.ready_reason.Statement.{statement}
 use Rattle.reason.proofs.ready_reason.Tie as tie
 
-thread-at-requires : tie.Need-thread-at-requires
-thread-at-requires c κs = search needs
+at-requires : tie.Need-at-requires
+at-requires c κs = search needs
 
 test-requires : tie.Need-test-requires
 test-requires c κs = search needs
@@ -20,8 +20,8 @@ test-requires c κs = search needs
 first-ready-requires : tie.Need-first-ready-requires
 first-ready-requires c κs = search needs
 
-thread-at-requires-2 : tie.Need-thread-at-requires-2
-thread-at-requires-2 c κs = search needs
+at-requires-2 : tie.Need-at-requires-2
+at-requires-2 c κs = search needs
 
 ahead-requires : tie.Need-ahead-requires
 ahead-requires c κs = search needs
@@ -35,7 +35,7 @@ module _ (c : tie.After-test) where
   thread = c .before .before .before .before .before .before .before .args .t
 
   abbrev owes : has (asked .lock .owing) (coreIn asked thread) ≡ c .test .result
-  owes = ap (has (asked .lock .owing)) (sym (c .before .thread-at .ensures)) ∙ sym (c .test .ensures)
+  owes = ap (has (asked .lock .owing)) (sym (c .before .at .ensures)) ∙ sym (c .test .ensures)
 
 -- the core's first ready thread
 module _ (c : tie.After-first-ready) where
@@ -43,7 +43,7 @@ module _ (c : tie.After-first-ready) where
   tested = c .before .before .before .before .before .before .before .before
 
   abbrev first : firstIn (asked tested) (coreIn (asked tested) (thread tested)) ≡ c .first-ready .result
-  first = ap (firstIn (asked tested)) (sym (tested .before .thread-at .ensures)) ∙ sym (c .first-ready .ensures)
+  first = ap (firstIn (asked tested)) (sym (tested .before .at .ensures)) ∙ sym (c .first-ready .ensures)
 
   -- which is asked for where the core does not owe
   abbrev idle : has (asked tested .lock .owing) (coreIn (asked tested) (thread tested)) ≡ false
@@ -55,7 +55,7 @@ module _ (c : tie.After-ahead) where
   found = c .before .before .before .before .before .before .before .before .before .before
 
   abbrev outranks : aheadIn (asked (tested found)) (asked (tested found) .lock .holder) (gangIn (asked (tested found)) (thread (tested found))) ≡ c .ahead .result
-  outranks = ap (aheadIn (asked (tested found)) (asked (tested found) .lock .holder)) (sym (c .before .before .before .thread-at2 .ensures)) ∙ sym (c .ahead .ensures)
+  outranks = ap (aheadIn (asked (tested found)) (asked (tested found) .lock .holder)) (sym (c .before .before .before .at2 .ensures)) ∙ sym (c .ahead .ensures)
 
 returns : tie.Need-returns
 returns c = sym (ready-owes (asked (c .before)) (thread (c .before)) (owes (c .before) ∙ c .if1 .taken))
@@ -72,7 +72,7 @@ returns-3 c =
     let at = c .before .before .before in
     let s = asked (tested at) in
     let t = thread (tested at) in
-    sym (ready-first s t (idle at) (first at ∙ c .before .before .if2 .left) ∙ outranked-free s t (c .if3 .taken))
+    sym (ready-not-behind s t (idle at) (first at ∙ c .before .before .if2 .left) ∙ outranked-free s t (c .if3 .taken))
 
 returns-4 : tie.Need-returns-4
 returns-4 c =
@@ -80,7 +80,7 @@ returns-4 c =
     let s = asked (tested at) in
     let t = thread (tested at) in
     let else3 = c .before .before .before .before .before .before .before .before in
-    sym (ready-first s t (idle at) (first at ∙ else3 .before .before .if2 .left) ∙ outranked-ahead s t (else3 .if3 .left) (outranks (c .before) ∙ c .if4 .taken))
+    sym (ready-not-behind s t (idle at) (first at ∙ else3 .before .before .if2 .left) ∙ outranked-ahead s t (else3 .if3 .left) (outranks (c .before) ∙ c .if4 .taken))
 
 returns-5 : tie.Need-returns-5
 returns-5 c =
@@ -88,19 +88,19 @@ returns-5 c =
     let s = asked (tested at) in
     let t = thread (tested at) in
     let else3 = c .before .before .before .before .before .before .before .before in
-    sym (ready-first s t (idle at) (first at ∙ else3 .before .before .if2 .left) ∙ outranked-not s t (else3 .if3 .left) (outranks (c .before) ∙ c .if4 .left))
+    sym (ready-not-behind s t (idle at) (first at ∙ else3 .before .before .if2 .left) ∙ outranked-not s t (else3 .if3 .left) (outranks (c .before) ∙ c .if4 .left))
 
 pub ready-reason-spec : {M : Type 1} → statement M
 ready-reason-spec =
     tie.close
     (tie.spec
-    thread-at-requires
+    at-requires
     test-requires
     returns
     first-ready-requires
     returns-2
     returns-3
-    thread-at-requires-2
+    at-requires-2
     ahead-requires
     returns-4
     returns-5)

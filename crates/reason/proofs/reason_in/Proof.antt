@@ -6,18 +6,18 @@ use Rattle.coreset.specs.Set.{has}
 use Rattle.table.specs.Numbers.{finished, waiting}
 use Rattle.system.specs.declared.System.{System}
 use Rattle.system.specs.System.{stateIn, coreIn, running}
-use Rattle.reason.specs.WhyLaws.{reason-finished, reason-waiting, reason-locked, reason-displaced, reason-ready}
+use Rattle.reason.specs.laws.Why.{reason-finished, reason-waiting, reason-locked, reason-displaced, reason-ready}
 use Rattle.reason.proofs.reason_in.Statement.{statement}
 use Rattle.reason.proofs.reason_in.Tie as tie
 
-thread-at-requires : tie.Need-thread-at-requires
-thread-at-requires c κs = search needs
+at-requires : tie.Need-at-requires
+at-requires c κs = search needs
 
 is-running-requires : tie.Need-is-running-requires
 is-running-requires c κs = search needs
 
-thread-at-requires-2 : tie.Need-thread-at-requires-2
-thread-at-requires-2 c κs = search needs
+at-requires-2 : tie.Need-at-requires-2
+at-requires-2 c κs = search needs
 
 test-requires : tie.Need-test-requires
 test-requires c κs = search needs
@@ -26,19 +26,19 @@ ready-reason-requires : tie.Need-ready-reason-requires
 ready-reason-requires c κs = search needs
 
 -- the thread's state
-module _ (c : tie.After-thread-at) where
+module _ (c : tie.After-at) where
   abbrev asked : System
   asked = c .before .before .before .before .before .before .args .t1
 
   abbrev thread : ℕ
   thread = c .before .before .before .before .before .before .args .t
 
-  abbrev its : stateIn asked thread ≡ c .thread-at .result
-  its = sym (c .thread-at .ensures)
+  abbrev its : stateIn asked thread ≡ c .at .result
+  its = sym (c .at .ensures)
 
 -- whether it runs
 module _ (c : tie.After-is-running) where
-  abbrev state : tie.After-thread-at
+  abbrev state : tie.After-at
   state = c .before .before .before .before .before .before .before .before .before
 
   abbrev runs : running (asked state) (thread state) ≡ c .is-running .result
@@ -57,7 +57,7 @@ module _ (c : tie.After-test) where
   run = c .before .before .before .before .before .before
 
   abbrev locked : has (asked (state run) .lock .locked) (coreIn (asked (state run)) (thread (state run))) ≡ c .test .result
-  locked = ap (has (asked (state run) .lock .locked)) (sym (c .before .thread-at2 .ensures)) ∙ sym (c .test .ensures)
+  locked = ap (has (asked (state run) .lock .locked)) (sym (c .before .at2 .ensures)) ∙ sym (c .test .ensures)
 
 returns : tie.Need-returns
 returns c = sym (reason-finished (asked (c .before)) (thread (c .before)) (its (c .before) ∙ c .if1 .taken))
@@ -98,11 +98,11 @@ pub reason-in-spec : {M : Type 1} → statement M
 reason-in-spec =
     tie.close
     (tie.spec
-    thread-at-requires
+    at-requires
     returns
     returns-2
     is-running-requires
-    thread-at-requires-2
+    at-requires-2
     test-requires
     returns-3
     returns-4

@@ -4,7 +4,7 @@ use borrow.Author.Needs.{needs}
 use Rattle.reason.specs.declared.Reason.{Reason}
 use Rattle.reason.specs.declared.Explanation.the-variants as explanation
 use Rattle.reason.specs.Why.{explainedOf}
-use Rattle.reason.specs.WhyLaws.{why-given, why-beyond, why-unformed}
+use Rattle.reason.specs.laws.Why.{why-given, why-beyond, why-unformed}
 use Rattle.reason.proofs.why.Statement.{statement}
 use Rattle.reason.proofs.why.Tie as tie
 

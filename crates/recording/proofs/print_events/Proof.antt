@@ -4,7 +4,7 @@ use mathlib.Core.Path.{_≡_, refl}
 use native.Mathlib.Omega.{arith}
 use denote.Ref.{now}
 use lib.ListN.{length}
-use Rattle.wire.specs.RecordLaws.{Within}
+use Rattle.wire.specs.Record.{headerSize}
 use Rattle.recording.proofs.Turn.{turn}
 use borrow.Author.Needs.{needs}
 use Rattle.recording.proofs.print_events.Statement.{statement}
@@ -65,13 +65,14 @@ module _ (c : tie.After-struct-known2 Inv-loop μ-loop) where
   abbrev loop : tie.At-loop Inv-loop μ-loop
   loop = listed .before .before .before .before
 
-  took : Within (now (loop .before .before .args .bytes)) (loop .loop .at) (loop .loop .at + listed .list-event .result .size)
+  took : (headerSize ≤ listed .list-event .result .size)
+      × (loop .loop .at + listed .list-event .result .size ≤ length (now (loop .before .before .args .bytes)))
   took =
       turn (loop .loop .system) (loop .loop .position) (loop .loop .at) (now (loop .before .before .args .bytes)) (listed .list-event .result)
       (listed .list-event .ensures .0) (shown .if1 .left) (loop .loop .inv .0)
 
 add-at : tie.Need-add-at Inv-loop μ-loop
-add-at c = omega (arith, took c .inside, loop c .before .before .pre .1)
+add-at c = omega (arith, took c .1, loop c .before .before .pre .1)
 
 add-position : tie.Need-add-position Inv-loop μ-loop
 add-position c = omega (arith, loop c .loop .inv, loop c .before .before .pre .1)
@@ -80,7 +81,7 @@ loop-less : tie.Need-loop-less Inv-loop μ-loop
 loop-less c = omega (arith, took c)
 
 loop-again : tie.Need-loop-again Inv-loop μ-loop
-loop-again c = (took c .inside, omega (arith, took c .header), refl)
+loop-again c = (took c .1, omega (arith, took c .0), refl)
 
 returns-2 : tie.Need-returns-2 Inv-loop μ-loop
 returns-2 c = search needs

@@ -3,7 +3,7 @@ use Prim.Native.Nat.{_≤_}
 use native.Mathlib.Omega.{arith}
 use denote.Ref.{now}
 use lib.ListN.{length, length-take}
-use Rattle.listed.specs.StartLaws.{start-inside}
+use Rattle.listed.specs.laws.Start.{start-inside}
 use borrow.Author.Needs.{needs}
 use Rattle.recording.proofs.print_input.Statement.{statement}
 use Rattle.recording.proofs.print_input.Tie as tie

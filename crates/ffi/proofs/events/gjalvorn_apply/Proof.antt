@@ -1,6 +1,6 @@
 -- `gjalvorn_apply` meets its contract: the event that the kind names, or 2.
 use mathlib.Core.Path.{sym, ap, _∙_}
-use Rattle.ffi.specs.Calls.{appliedBy}
+use Rattle.ffi.specs.Calls.{answeredOf, appliedBy}
 use borrow.Author.Needs.{needs}
 use Rattle.ffi.proofs.events.gjalvorn_apply.Statement.{statement}
 use Rattle.ffi.proofs.events.gjalvorn_apply.Tie as tie
@@ -11,8 +11,11 @@ event-named-requires c κs = search needs
 enum-known-known : tie.Need-enum-known-known
 enum-known-known c = search needs
 
-applied-requires : tie.Need-applied-requires
-applied-requires c κs = search needs
+apply-requires : tie.Need-apply-requires
+apply-requires c κs = search needs
+
+with-answer-requires : tie.Need-with-answer-requires
+with-answer-requires c κs = search needs
 
 enum-told : tie.Need-enum-told
 enum-told c = search needs
@@ -22,8 +25,9 @@ unknown-requires c κs = search needs
 
 returns : tie.Need-returns
 returns c =
-    let known = c .before .before in
-    c .applied .ensures ∙ sym (ap (appliedBy _) (sym (known .before .before .event-named .ensures) ∙ known .known .given .1))
+    let known = c .before .before .before in
+    c .with-answer .ensures ∙ ap answeredOf (c .before .apply .ensures)
+    ∙ sym (ap (appliedBy _) (sym (known .before .before .event-named .ensures) ∙ known .known .given .1))
 
 returns-2 : tie.Need-returns-2
 returns-2 c =
@@ -36,7 +40,8 @@ gjalvorn-apply-spec =
     (tie.spec
     event-named-requires
     enum-known-known
-    applied-requires
+    apply-requires
+    with-answer-requires
     enum-told
     unknown-requires
     returns

@@ -1,15 +1,18 @@
--- `gjalvorn_finish` meets its contract: it is its event, applied.
+-- `gjalvorn_finish` meets its contract: it is the system's own event, with its answer as the fields of its record.
+use mathlib.Core.Path.{ap, _∙_}
+use Rattle.ffi.specs.Calls.{answeredOf}
 use borrow.Author.Needs.{needs}
-use Rattle.system.specs.Events.{stepOf}
 use Rattle.ffi.proofs.events.gjalvorn_finish.Statement.{statement}
 use Rattle.ffi.proofs.events.gjalvorn_finish.Tie as tie
 
-applied-requires : tie.Need-applied-requires
-applied-requires c κs = search needs
+finish-requires : tie.Need-finish-requires
+finish-requires c κs = search needs
+
+with-answer-requires : tie.Need-with-answer-requires
+with-answer-requires c κs = search needs
 
 returns : tie.Need-returns
-unfolding stepOf
-returns c = c .applied .ensures
+returns c = c .with-answer .ensures ∙ ap answeredOf (c .before .finish .ensures)
 
 pub gjalvorn-finish-spec : {M : Type 1} → statement M
-gjalvorn-finish-spec = tie.close (tie.spec applied-requires returns)
+gjalvorn-finish-spec = tie.close (tie.spec finish-requires with-answer-requires returns)

@@ -1,6 +1,6 @@
 -- `unknown` meets its contract: 2 on a well-formed system, and 14 on any other.
 use mathlib.Core.Path.{sym, ap, _∙_}
-use Rattle.system.specs.Cases.{checked-yes, checked-no}
+use Rattle.system.specs.laws.StepCases.{checked-yes, checked-no}
 use Rattle.ffi.specs.Calls.{answeredOf}
 use borrow.Author.Needs.{needs}
 use Rattle.ffi.proofs.events.unknown.Statement.{statement}
@@ -12,15 +12,33 @@ well-formed-requires c κs = search needs
 refused-requires : tie.Need-refused-requires
 refused-requires c κs = search needs
 
+with-answer-requires : tie.Need-with-answer-requires
+with-answer-requires c κs = search needs
+
 refused-requires-2 : tie.Need-refused-requires-2
 refused-requires-2 c κs = search needs
 
+with-answer-requires-2 : tie.Need-with-answer-requires-2
+with-answer-requires-2 c κs = search needs
+
 returns : tie.Need-returns
-returns c = c .refused .ensures ∙ sym (ap answeredOf (checked-yes _ _ (sym (c .before .before .well-formed .ensures) ∙ c .before .if1 .taken)))
+returns c =
+    let test = c .before .before in
+    c .with-answer .ensures ∙ ap answeredOf (c .before .refused .ensures ∙ sym (checked-yes _ _ (sym (test .before .well-formed .ensures) ∙ test .if1 .taken)))
 
 returns-2 : tie.Need-returns-2
-returns-2 c = c .refused2 .ensures ∙ sym (ap answeredOf (checked-no _ _ (sym (c .before .before .well-formed .ensures) ∙ c .before .if1 .left)))
+returns-2 c =
+    let test = c .before .before in
+    c .with-answer2 .ensures ∙ ap answeredOf (c .before .refused2 .ensures ∙ sym (checked-no _ _ (sym (test .before .well-formed .ensures) ∙ test .if1 .left)))
 
 pub unknown-spec : {M : Type 1} → statement M
 unknown-spec =
-    tie.close (tie.spec well-formed-requires refused-requires refused-requires-2 returns returns-2)
+    tie.close
+    (tie.spec
+    well-formed-requires
+    refused-requires
+    with-answer-requires
+    refused-requires-2
+    with-answer-requires-2
+    returns
+    returns-2)

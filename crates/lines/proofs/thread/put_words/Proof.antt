@@ -46,7 +46,8 @@ loop-again : tie.Need-loop-again Inv-loop μ-loop
 loop-again c =
     let l = c .before .before .loop in
     let a = c .before .before .before .before .before .before .args in
-    (omega arith, l .inv .1, l .inv .2, simp length-set (l .inv .3), words-more (now (a .out)) (now (a .words)) (a .at) (l .out) (l .i) (l .inv .4) (omega arith) (omega arith) (omega arith))
+    let more = words-more (now (a .out)) (now (a .words)) (a .at) (l .out) (l .i) (l .inv .4) (omega arith) (omega arith) (omega arith) in
+    (omega arith, l .inv .1, l .inv .2, simp length-set (l .inv .3), more)
 
 add-result : tie.Need-add-result Inv-loop μ-loop
 add-result c = search needs

@@ -5,8 +5,8 @@ use Rattle.listed.proofs.Said.{said}
 use Rattle.listed.proofs.reasons.reason_line.Statement.{statement}
 use Rattle.listed.proofs.reasons.reason_line.Tie as tie
 
-which-of-requires : tie.Need-which-of-requires
-which-of-requires c κs = search needs
+reason-which-requires : tie.Need-reason-which-requires
+reason-which-requires c κs = search needs
 
 enum-told : tie.Need-enum-told
 enum-told c = search needs
@@ -84,55 +84,55 @@ returns : tie.Need-returns
 returns c =
     let asked = c .before .before .before .before .before in
     let a = asked .before .args in
-    said (a .position) (a .t) reason.Finished (c .before .before .before .enum-told .given .1) (asked .which-of .ensures) (c .thread-line .ensures)
+    said (a .position) (a .t) reason.Finished (c .before .before .before .enum-told .given .1) (asked .reason-which .ensures) (c .thread-line .ensures)
 
 returns-2 : tie.Need-returns-2
 returns-2 c =
     let asked = c .before .before .before .before .before in
     let a = asked .before .args in
-    said (a .position) (a .t) reason.Waiting (c .before .before .before .enum-told2 .given .1) (asked .which-of .ensures) (c .thread-line2 .ensures)
+    said (a .position) (a .t) reason.Waiting (c .before .before .before .enum-told2 .given .1) (asked .reason-which .ensures) (c .thread-line2 .ensures)
 
 returns-3 : tie.Need-returns-3
 returns-3 c =
     let asked = c .before .before .before .before .before in
     let a = asked .before .args in
-    said (a .position) (a .t) reason.RunningLocked (c .before .before .before .enum-told3 .given .1) (asked .which-of .ensures) (c .thread-line3 .ensures)
+    said (a .position) (a .t) reason.RunningLocked (c .before .before .before .enum-told3 .given .1) (asked .reason-which .ensures) (c .thread-line3 .ensures)
 
 returns-4 : tie.Need-returns-4
 returns-4 c =
     let asked = c .before .before .before .before .before in
     let a = asked .before .args in
-    said (a .position) (a .t) reason.RunningDisplaced (c .before .before .before .enum-told4 .given .1) (asked .which-of .ensures) (c .thread-line4 .ensures)
+    said (a .position) (a .t) reason.RunningDisplaced (c .before .before .before .enum-told4 .given .1) (asked .reason-which .ensures) (c .thread-line4 .ensures)
 
 returns-5 : tie.Need-returns-5
 returns-5 c =
     let asked = c .before .before .before .before .before in
     let a = asked .before .args in
-    said (a .position) (a .t) reason.CoreOwes (c .before .before .before .enum-told5 .given .1) (asked .which-of .ensures) (c .thread-line5 .ensures)
+    said (a .position) (a .t) reason.CoreOwes (c .before .before .before .enum-told5 .given .1) (asked .reason-which .ensures) (c .thread-line5 .ensures)
 
 returns-6 : tie.Need-returns-6
 returns-6 c =
     let asked = c .before .before .before .before .before in
     let a = asked .before .args in
-    said (a .position) (a .t) (reason.ThreadAhead _) (c .before .before .before .enum-told6 .given .1) (asked .which-of .ensures) (c .thread-line6 .ensures)
+    said (a .position) (a .t) (reason.ThreadAhead _) (c .before .before .before .enum-told6 .given .1) (asked .reason-which .ensures) (c .thread-line6 .ensures)
 
 returns-7 : tie.Need-returns-7
 returns-7 c =
     let asked = c .before .before .before .before .before in
     let a = asked .before .args in
-    said (a .position) (a .t) (reason.GangHolds _) (c .before .before .before .enum-told7 .given .1) (asked .which-of .ensures) (c .thread-line7 .ensures)
+    said (a .position) (a .t) (reason.GangHolds _) (c .before .before .before .enum-told7 .given .1) (asked .reason-which .ensures) (c .thread-line7 .ensures)
 
 returns-8 : tie.Need-returns-8
 returns-8 c =
     let asked = c .before .before .before .before .before in
     let a = asked .before .args in
-    said (a .position) (a .t) reason.NoneOfThese (c .before .before .before .enum-told8 .given .1) (asked .which-of .ensures) (c .thread-line8 .ensures)
+    said (a .position) (a .t) reason.NoneOfThese (c .before .before .before .enum-told8 .given .1) (asked .reason-which .ensures) (c .thread-line8 .ensures)
 
 pub reason-line-spec : {M : Type 1} → statement M
 reason-line-spec =
     tie.close
     (tie.spec
-    which-of-requires
+    reason-which-requires
     enum-told
     slice-aggregate-thread-line
     thread-line-requires

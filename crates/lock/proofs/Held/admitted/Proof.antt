@@ -1,7 +1,7 @@
 -- `Held::admitted` meets its contract: its two branches are the definition's two cases.
 use borrow.Author.Needs.{needs}
 use mathlib.Core.Path.{sym, _∙_}
-use Rattle.lock.specs.Cases.{admitted-none, admitted-some}
+use Rattle.lock.specs.laws.ServeCases.{admitted-none, admitted-some}
 use Rattle.lock.proofs.Held.admitted.Statement.{statement}
 use Rattle.lock.proofs.Held.admitted.Tie as tie
 

@@ -1,6 +1,6 @@
 -- `Held::block` meets its contract: core c is below 32, so that the mask has a place for it.
 use borrow.Author.Needs.{needs}
-use Rattle.coreset.specs.Laws.{within-below}
+use Rattle.coreset.specs.laws.Members.{within-below}
 use Rattle.lock.proofs.Held.block.Statement.{statement}
 use Rattle.lock.proofs.Held.block.Tie as tie
 

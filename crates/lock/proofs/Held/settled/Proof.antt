@@ -1,7 +1,7 @@
 -- `Held::settled` meets its contract: its two branches are the definition's two cases.
 use borrow.Author.Needs.{needs}
 use mathlib.Core.Path.{sym, _∙_}
-use Rattle.lock.specs.Cases.{settled-none, settled-some}
+use Rattle.lock.specs.laws.ServeCases.{settled-none, settled-some}
 use Rattle.lock.proofs.Held.settled.Statement.{statement}
 use Rattle.lock.proofs.Held.settled.Tie as tie
 

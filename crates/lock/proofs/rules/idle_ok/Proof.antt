@@ -6,7 +6,7 @@ use Rattle.lock.proofs.rules.idle_ok.Tie as tie
 
 returns : tie.Need-returns
 unfolding idleOk
-returns c = rw (eq-eqb _ 255 (c .if1 .taken))
+returns c = rw (eq-eqb _ 255 (c .before .if1 .taken))
 
 returns-2 : tie.Need-returns-2
 unfolding idleOk

@@ -2,7 +2,7 @@
 use borrow.Author.Tests.{eq-eqb, ne-eqb, lt-ltb, le-ltb}
 use mathlib.Core.Logic.{⊎-elim}
 use mathlib.Core.Path.{sym, _∙_}
-use Rattle.ranges.specs.Logic.{clash}
+use Rattle.ranges.specs.laws.Logic.{clash}
 use Rattle.lock.specs.LockRules.{pinnedOk}
 use Rattle.lock.proofs.rules.pinned_ok.Statement.{statement}
 use Rattle.lock.proofs.rules.pinned_ok.Tie as tie

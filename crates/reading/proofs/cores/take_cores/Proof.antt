@@ -1,7 +1,7 @@
 -- `reading::cores::take_cores`: its tests, in their order, lead to the cases of `coresTaken`.
 use mathlib.Core.Path.{sym, _∙_}
 use borrow.Author.Tests.{not-true, not-false}
-use Rattle.reading.specs.TakenLaws.{cores-again, cores-out, cores-in}
+use Rattle.reading.specs.laws.Taken.{cores-again, cores-out, cores-in}
 use Rattle.reading.proofs.cores.take_cores.Statement.{statement}
 use Rattle.reading.proofs.cores.take_cores.Tie as tie
 

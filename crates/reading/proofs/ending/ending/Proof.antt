@@ -1,6 +1,6 @@
 -- `reading::ending::ending`: its tests, in their order, lead to the cases of `ending`.
 use mathlib.Core.Path.{sym, _∙_}
-use Rattle.reading.specs.Ending.{ends-no-cores, ends-no-gang, ends-unmanned, ends-whole}
+use Rattle.reading.specs.laws.Ending.{ends-no-cores, ends-no-gang, ends-unmanned, ends-whole}
 use Rattle.reading.proofs.ending.ending.Statement.{statement}
 use Rattle.reading.proofs.ending.ending.Tie as tie
 

@@ -2,7 +2,7 @@
 use mathlib.Core.Path.{sym, _∙_}
 use borrow.Author.Needs.{needs}
 use borrow.Author.Tests.{not-true, not-false}
-use Rattle.reading.specs.TakenLaws.{gang-first, gang-many, gang-out, gang-taken, gang-in}
+use Rattle.reading.specs.laws.Taken.{gang-first, gang-many, gang-out, gang-taken, gang-in}
 use Rattle.reading.proofs.gang.take_gang.Statement.{statement}
 use Rattle.reading.proofs.gang.take_gang.Tie as tie
 

@@ -2,7 +2,7 @@
 use mathlib.Core.Path.{sym, _∙_}
 use borrow.Author.Needs.{needs}
 use borrow.Author.Tests.{not-true, not-false}
-use Rattle.reading.specs.TakenLaws.{thread-first, thread-many, thread-out, thread-in}
+use Rattle.reading.specs.laws.Taken.{thread-first, thread-many, thread-out, thread-in}
 use Rattle.reading.proofs.thread.take_thread.Statement.{statement}
 use Rattle.reading.proofs.thread.take_thread.Tie as tie
 

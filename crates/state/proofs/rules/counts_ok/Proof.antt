@@ -1,23 +1,20 @@
 -- `counts_ok` meets its contract: the loop keeps whether every place passed is right.
 use borrow.Author.Needs.{needs}
-use Prim.Native.Nat.{_≤_, _-_}
-use mathlib.Core.Path.{_≡_, refl, sym, ap₂, _∙_}
-use mathlib.Core.Bool.{_&&_}
-use native.Mathlib.Omega.{arith}
-use Rattle.ranges.specs.Range.{every, every-more}
+use Prim.Native.Nat.{_-_}
+use Rattle.table.specs.Numbers.{maxCores}
+use Rattle.ranges.specs.laws.Pass.{Passed, passed-none, passed-more, passed-all}
 use Rattle.state.specs.Rules.{countPlace, countsOk}
 use Rattle.state.proofs.rules.counts_ok.Statement.{statement}
 use Rattle.state.proofs.rules.counts_ok.Tie as tie
 
 abbrev Inv-loop : tie.InvT-loop
-Inv-loop kept n ok₀ c₀ ok c = (c ≤ 32) × (ok ≡ every c (countPlace n kept))
+Inv-loop kept n ok₀ c₀ ok c = Passed maxCores (countPlace n kept) c ok
 
 abbrev μ-loop : tie.MeasureT-loop
-μ-loop kept n ok₀ c₀ ok c = 32 - c
+μ-loop kept n ok₀ c₀ ok c = maxCores - c
 
 loop-holds : tie.Need-loop-holds Inv-loop μ-loop
-unfolding every
-loop-holds c = (omega arith, refl)
+loop-holds c = passed-none _ _
 
 cast-i : tie.Need-cast-i Inv-loop μ-loop
 cast-i c = search needs
@@ -38,13 +35,11 @@ loop-less : tie.Need-loop-less Inv-loop μ-loop
 loop-less c = search needs
 
 loop-again : tie.Need-loop-again Inv-loop μ-loop
-loop-again c = (omega arith, ap₂ _&&_ (c .before .before .before .loop .inv .1) (c .count-ok .ensures) ∙ sym (every-more _ _))
+loop-again c = let turn = c .before .before in passed-more (turn .before .loop .inv) (turn .loop-test .taken) (c .count-ok .ensures)
 
 returns : tie.Need-returns Inv-loop μ-loop
 unfolding countsOk
-returns c =
-    let e : c .before .loop .c ≡ 32 = omega arith in
-    rw e at (c .before .loop .inv .1)
+returns c = passed-all (c .before .loop .inv) (c .loop-test .left)
 
 pub counts-ok-spec : {M : Type 1} → statement M
 counts-ok-spec =

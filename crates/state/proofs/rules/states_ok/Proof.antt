@@ -1,23 +1,20 @@
 -- `states_ok` meets its contract: the loop keeps whether every place passed is right.
 use borrow.Author.Needs.{needs}
-use Prim.Native.Nat.{_≤_, _-_}
-use mathlib.Core.Path.{_≡_, refl, sym, ap₂, _∙_}
-use mathlib.Core.Bool.{_&&_}
-use native.Mathlib.Omega.{arith}
-use Rattle.ranges.specs.Range.{every, every-more}
+use Prim.Native.Nat.{_-_}
+use Rattle.table.specs.Numbers.{maxThreads}
+use Rattle.ranges.specs.laws.Pass.{Passed, passed-none, passed-more, passed-all}
 use Rattle.state.specs.Rules.{statePlace, statesOk}
 use Rattle.state.proofs.rules.states_ok.Statement.{statement}
 use Rattle.state.proofs.rules.states_ok.Tie as tie
 
 abbrev Inv-loop : tie.InvT-loop
-Inv-loop state n ok₀ t₀ ok t = (t ≤ 128) × (ok ≡ every t (statePlace n state))
+Inv-loop state n ok₀ t₀ ok t = Passed maxThreads (statePlace n state) t ok
 
 abbrev μ-loop : tie.MeasureT-loop
-μ-loop state n ok₀ t₀ ok t = 128 - t
+μ-loop state n ok₀ t₀ ok t = maxThreads - t
 
 loop-holds : tie.Need-loop-holds Inv-loop μ-loop
-unfolding every
-loop-holds c = (omega arith, refl)
+loop-holds c = passed-none _ _
 
 cast-i : tie.Need-cast-i Inv-loop μ-loop
 cast-i c = search needs
@@ -35,13 +32,11 @@ loop-less : tie.Need-loop-less Inv-loop μ-loop
 loop-less c = search needs
 
 loop-again : tie.Need-loop-again Inv-loop μ-loop
-loop-again c = (omega arith, ap₂ _&&_ (c .before .before .before .loop .inv .1) (c .state-ok .ensures) ∙ sym (every-more _ _))
+loop-again c = let turn = c .before .before in passed-more (turn .before .loop .inv) (turn .loop-test .taken) (c .state-ok .ensures)
 
 returns : tie.Need-returns Inv-loop μ-loop
 unfolding statesOk
-returns c =
-    let e : c .before .loop .t ≡ 128 = omega arith in
-    rw e at (c .before .loop .inv .1)
+returns c = passed-all (c .before .loop .inv) (c .loop-test .left)
 
 pub states-ok-spec : {M : Type 1} → statement M
 states-ok-spec =

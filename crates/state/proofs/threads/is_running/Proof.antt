@@ -1,36 +1,32 @@
 -- `is_running` meets its contract: each test is one of the rule's.
 use Rattle.state.specs.Threads.{isRunning}
-use Prim.Native.Nat.{ℕ}
-use lib.ListN.{getD}
-use denote.Ref.{now}
-use mathlib.Core.Path.{_≡_, sym, ap, ap₂, _∙_}
+use mathlib.Core.Path.{sym, _∙_}
 use borrow.Author.Tests.{eq-eqb, ne-eqb}
 use borrow.Author.Needs.{needs}
 use Rattle.state.proofs.threads.is_running.Statement.{statement}
 use Rattle.state.proofs.threads.is_running.Tie as tie
 
-thread-at-requires : tie.Need-thread-at-requires
-thread-at-requires c κs = search needs
+at-requires : tie.Need-at-requires
+at-requires c κs = search needs
 
-thread-at-requires-2 : tie.Need-thread-at-requires-2
-thread-at-requires-2 c κs = search needs
+at-requires-2 : tie.Need-at-requires-2
+at-requires-2 c κs = search needs
 
-occupant-at-requires : tie.Need-occupant-at-requires
-occupant-at-requires c κs = search needs
+at-or-requires : tie.Need-at-or-requires
+at-or-requires c κs = search needs
 
 returns : tie.Need-returns
 unfolding isRunning
 returns c =
-    let a = c .before .before .before .before .before .before .before .args in
-    let r : getD (now (a .state)) (a .t) 0 ≡ 1 = cc in
-    let o : c .occupant-at .result ≡ getD (now (a .occupant)) (getD (now (a .core)) (a .t) 0) 255 = cc in
-    rw (eq-eqb _ _ r, o)
+    let core = c .before in
+    let state = core .before .before .before in
+    rw (eq-eqb _ _ (sym (state .before .at .ensures) ∙ state .if1 .taken), ← core .at2 .ensures, c .at-or .ensures)
 
 returns-2 : tie.Need-returns-2
 unfolding isRunning
-returns-2 c = rw (ne-eqb _ 1 (λ e. c .if1 .left (c .before .thread-at .ensures ∙ e)))
+returns-2 c = rw (ne-eqb _ 1 (λ e. c .if1 .left (c .before .at .ensures ∙ e)))
 
 pub is-running-spec : {M : Type 1} → statement M
 is-running-spec =
     tie.close
-    (tie.spec thread-at-requires thread-at-requires-2 occupant-at-requires returns returns-2)
+    (tie.spec at-requires at-requires-2 at-or-requires returns returns-2)

@@ -2,7 +2,7 @@
 use Rattle.system.specs.Questions.{aboutAll}
 use Rattle.system.specs.WellFormed.{wellFormed}
 use mathlib.Core.Bool.{true, false}
-use mathlib.Core.Path.{_≡_, sym, ap, ap₂, _∙_}
+use mathlib.Core.Path.{_≡_}
 use borrow.Author.Needs.{needs}
 use Rattle.system.proofs.System.about_all.Statement.{statement}
 use Rattle.system.proofs.System.about_all.Tie as tie

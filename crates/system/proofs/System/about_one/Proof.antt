@@ -3,7 +3,7 @@ use Rattle.system.specs.Questions.{aboutOne}
 use Rattle.system.specs.WellFormed.{wellFormed}
 use mathlib.Core.Bool.{true, false}
 use borrow.Author.Tests.{lt-ltb, le-ltb}
-use mathlib.Core.Path.{_≡_, sym, ap, ap₂, _∙_}
+use mathlib.Core.Path.{_≡_}
 use borrow.Author.Needs.{needs}
 use Rattle.system.proofs.System.about_one.Statement.{statement}
 use Rattle.system.proofs.System.about_one.Tie as tie

@@ -1,6 +1,6 @@
 -- `System::empty` meets its contract: the fresh system of the empty table.
 use Rattle.system.specs.System.{freshSystem}
-use mathlib.Core.Path.{_≡_, sym, ap, ap₂, _∙_}
+use mathlib.Core.Path.{ap, _∙_}
 use borrow.Author.Needs.{needs}
 use Rattle.system.proofs.System.empty.Statement.{statement}
 use Rattle.system.proofs.System.empty.Tie as tie

@@ -3,8 +3,8 @@ use borrow.Author.Needs.{needs}
 use Rattle.system.proofs.System.occupant.Statement.{statement}
 use Rattle.system.proofs.System.occupant.Tie as tie
 
-occupant-at-requires : tie.Need-occupant-at-requires
-occupant-at-requires c κs = search needs
+at-or-requires : tie.Need-at-or-requires
+at-or-requires c κs = search needs
 
 cast-about-one : tie.Need-cast-about-one
 cast-about-one c = search needs
@@ -16,4 +16,4 @@ returns : tie.Need-returns
 returns c = cc
 
 pub occupant-spec : {M : Type 1} → statement M
-occupant-spec = tie.close (tie.spec occupant-at-requires cast-about-one about-one-requires returns)
+occupant-spec = tie.close (tie.spec at-or-requires cast-about-one about-one-requires returns)

@@ -1,15 +1,48 @@
--- `System::release` meets its contract: it is `apply` of its event.
-use Rattle.system.specs.Events.{stepOf}
+-- `System::release` meets its contract: 14, or the step in place on the system's own parts.
+use Rattle.system.specs.declared.System.{System}
+use Rattle.system.specs.Events.{releaseStep}
+use Rattle.system.proofs.ByValue.{event-refused, event-done}
 use borrow.Author.Needs.{needs}
 use Rattle.system.proofs.System.release.Statement.{statement}
 use Rattle.system.proofs.System.release.Tie as tie
 
-apply-requires : tie.Need-apply-requires
-apply-requires c κs = search needs
+well-formed-requires : tie.Need-well-formed-requires
+well-formed-requires c κs = search needs
+
+refused-requires : tie.Need-refused-requires
+refused-requires c κs = search needs
 
 returns : tie.Need-returns
-unfolding stepOf
-returns c = c .apply .ensures
+returns c =
+    let test = c .before .before in
+    let a = test .before .args in
+    event-refused (a .self) (λ (s : System). releaseStep s (a .g)) (test .well-formed .ensures) (c .before .if1 .taken) (c .refused .ensures)
+
+held-requires : tie.Need-held-requires
+held-requires c κs = search needs
+
+release-requires : tie.Need-release-requires
+release-requires c κs = search needs
+
+replied-requires : tie.Need-replied-requires
+replied-requires c κs = search needs
+
+returns-2 : tie.Need-returns-2
+returns-2 c =
+    let lent = c .before .before .before .before .before .before .before .before .before .before .before .before .before .before .before .before .before .before in
+    let there = lent .before .before .before in
+    let a = there .before .before .args in
+    event-done (a .self) (λ (s : System). releaseStep s (a .g)) (there .before .well-formed .ensures) (there .if1 .left) (lent .held .ensures)
+    (c .before .release .ensures (a .self)) (c .replied .ensures)
 
 pub release-spec : {M : Type 1} → statement M
-release-spec = tie.close (tie.spec apply-requires returns)
+release-spec =
+    tie.close
+    (tie.spec
+    well-formed-requires
+    refused-requires
+    returns
+    held-requires
+    release-requires
+    replied-requires
+    returns-2)

@@ -3,8 +3,8 @@ use borrow.Author.Needs.{needs}
 use Rattle.system.proofs.System.release_number.Statement.{statement}
 use Rattle.system.proofs.System.release_number.Tie as tie
 
-value-of-requires : tie.Need-value-of-requires
-value-of-requires c κs = search needs
+value-at-requires : tie.Need-value-at-requires
+value-at-requires c κs = search needs
 
 about-one-requires : tie.Need-about-one-requires
 about-one-requires c κs = search needs
@@ -13,4 +13,4 @@ returns : tie.Need-returns
 returns c = cc
 
 pub release-number-spec : {M : Type 1} → statement M
-release-number-spec = tie.close (tie.spec value-of-requires about-one-requires returns)
+release-number-spec = tie.close (tie.spec value-at-requires about-one-requires returns)

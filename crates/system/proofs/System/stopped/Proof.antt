@@ -1,7 +1,7 @@
 -- `System::stopped` meets its contract: 1 where the core is stopped and 0 where not.
 use Rattle.system.specs.Stop.{stopped}
 use mathlib.Core.Bool.{true, false}
-use mathlib.Core.Path.{_≡_, sym, ap, ap₂, _∙_}
+use mathlib.Core.Path.{_≡_}
 use borrow.Author.Needs.{needs}
 use Rattle.system.proofs.System.stopped.Statement.{statement}
 use Rattle.system.proofs.System.stopped.Tie as tie

@@ -1,15 +1,49 @@
--- `System::wait` meets its contract: it is `apply` of its event.
-use Rattle.system.specs.Events.{stepOf}
+-- `System::wait` meets its contract: 14, or the step in place on the system's own parts.
+use Rattle.table.specs.Numbers.{waiting}
+use Rattle.system.specs.declared.System.{System}
+use Rattle.system.specs.Events.{leaveStep}
+use Rattle.system.proofs.ByValue.{event-refused, event-done}
 use borrow.Author.Needs.{needs}
 use Rattle.system.proofs.System.wait.Statement.{statement}
 use Rattle.system.proofs.System.wait.Tie as tie
 
-apply-requires : tie.Need-apply-requires
-apply-requires c κs = search needs
+well-formed-requires : tie.Need-well-formed-requires
+well-formed-requires c κs = search needs
+
+refused-requires : tie.Need-refused-requires
+refused-requires c κs = search needs
 
 returns : tie.Need-returns
-unfolding stepOf
-returns c = c .apply .ensures
+returns c =
+    let test = c .before .before in
+    let a = test .before .args in
+    event-refused (a .self) (λ (s : System). leaveStep s (a .t) waiting) (test .well-formed .ensures) (c .before .if1 .taken) (c .refused .ensures)
+
+held-requires : tie.Need-held-requires
+held-requires c κs = search needs
+
+leave-requires : tie.Need-leave-requires
+leave-requires c κs = search needs
+
+replied-requires : tie.Need-replied-requires
+replied-requires c κs = search needs
+
+returns-2 : tie.Need-returns-2
+returns-2 c =
+    let lent = c .before .before .before .before .before .before .before .before .before in
+    let there = lent .before .before .before in
+    let a = there .before .before .args in
+    event-done (a .self) (λ (s : System). leaveStep s (a .t) waiting) (there .before .well-formed .ensures) (there .if1 .left) (lent .held .ensures)
+    (c .before .leave .ensures (a .self)) (c .replied .ensures)
 
 pub wait-spec : {M : Type 1} → statement M
-wait-spec = tie.close (tie.spec apply-requires returns)
+wait-spec =
+    tie.close
+    (tie.spec
+    well-formed-requires
+    refused-requires
+    returns
+    held-requires
+    leave-requires
+    replied-requires
+    returns-2)

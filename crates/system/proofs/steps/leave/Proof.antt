@@ -1,7 +1,10 @@
 -- `leave` meets its contract: the two refusals, and else the turned thread.
 use mathlib.Core.Path.{sym, _∙_}
-use Rattle.system.specs.Cases.{leave-absent, leave-idle}
-use Rattle.system.proofs.Parts.{parts-refused, parts-left}
+use denote.Ref.{now}
+use Rattle.lock.specs.declared.Held.{Held}
+use Rattle.system.specs.laws.StepCases.{leave-absent, leave-done, leave-idle}
+use Rattle.system.specs.Parts.{threadParts}
+use Rattle.system.proofs.Parts.{put-refused, put-turned}
 use native.Mathlib.Omega.{arith}
 use borrow.Author.Needs.{needs}
 use Rattle.system.proofs.steps.leave.Statement.{statement}
@@ -11,9 +14,10 @@ refused-requires : tie.Need-refused-requires
 refused-requires c κs = search needs
 
 returns : tie.Need-returns
-returns c cores gangs priority budget gang number served skipped job kept =
-    let a = c .before .before .args in
-    leave-absent _ _ _ (c .before .if1 .taken) ∙ parts-refused _ _ _ _ _ _ _ _ _ _ _ _ (a .held) _ _ (c .refused .ensures)
+returns c s =
+    let a = c .before .before .before .args in
+    leave-absent _ _ _ (c .before .if1 .taken)
+    ∙ put-refused (λ (h : Held). threadParts s (a .sizes) (now (a .core)) (now (a .state)) h (now (a .occupant))) (c .refused .ensures)
 
 is-running-requires : tie.Need-is-running-requires
 is-running-requires c κs = search needs
@@ -22,22 +26,24 @@ turn-requires : tie.Need-turn-requires
 turn-requires c κs = search needs
 
 returns-2 : tie.Need-returns-2
-returns-2 c cores gangs priority budget gang number served skipped job kept =
+returns-2 c s =
     let test = c .before .before in
     let there = test .before .before .before in
-    let a = there .before .args in
-    parts-left _ _ _ _ _ _ _ _ _ _ _ _ (a .held) _ _ (a .t) (a .v) (omega (arith, there .if1 .left)) (sym (test .before .is-running .ensures) ∙ test .if2 .taken)
+    let a = there .before .before .args in
+    leave-done _ _ _ (omega (arith, there .if1 .left)) (sym (test .before .is-running .ensures) ∙ test .if2 .taken)
+    ∙ put-turned s (a .sizes) (now (a .core)) (now (a .state)) (a .held) (now (a .occupant)) (a .t) (a .v)
     (c .turn .ensures .0) (c .turn .ensures .1 .0 _) (c .turn .ensures .1 .1)
 
 refused-requires-2 : tie.Need-refused-requires-2
 refused-requires-2 c κs = search needs
 
 returns-3 : tie.Need-returns-3
-returns-3 c cores gangs priority budget gang number served skipped job kept =
+returns-3 c s =
     let test = c .before in
     let there = test .before .before .before in
-    let a = there .before .args in
-    leave-idle _ _ _ (omega (arith, there .if1 .left)) (sym (test .before .is-running .ensures) ∙ test .if2 .left) ∙ parts-refused _ _ _ _ _ _ _ _ _ _ _ _ (a .held) _ _ (c .refused2 .ensures)
+    let a = there .before .before .args in
+    leave-idle _ _ _ (omega (arith, there .if1 .left)) (sym (test .before .is-running .ensures) ∙ test .if2 .left)
+    ∙ put-refused (λ (h : Held). threadParts s (a .sizes) (now (a .core)) (now (a .state)) h (now (a .occupant))) (c .refused2 .ensures)
 
 pub leave-spec : {M : Type 1} → statement M
 leave-spec =

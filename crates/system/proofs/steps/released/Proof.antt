@@ -1,6 +1,7 @@
--- `released` meets its contract: each part is what its callee makes of it.
+-- `released` meets its contract: served where all the gang's threads are finished, and else skipped.
 use mathlib.Core.Path.{sym, _∙_}
-use Rattle.system.proofs.Parts.{parts-served, parts-skipped}
+use denote.Ref.{now}
+use Rattle.system.proofs.Parts.{put-served, put-skipped}
 use borrow.Author.Needs.{needs}
 use Rattle.system.proofs.steps.released.Statement.{statement}
 use Rattle.system.proofs.steps.released.Tie as tie
@@ -14,36 +15,36 @@ make-ready-requires c κs = search needs
 make-owe-requires : tie.Need-make-owe-requires
 make-owe-requires c κs = search needs
 
-serve-requires : tie.Need-serve-requires
-serve-requires c κs = search needs
+serve-release-requires : tie.Need-serve-release-requires
+serve-release-requires c κs = search needs
 
-value-of-requires : tie.Need-value-of-requires
-value-of-requires c κs = search needs
+value-at-requires : tie.Need-value-at-requires
+value-at-requires c κs = search needs
 
 returns : tie.Need-returns
-returns c cores gangs priority budget occupant kept =
+returns c s =
     let serve = c .before .before .before in
     let owe = serve .before .before .before .before in
     let ready = owe .before in
     let test = ready .before .before in
     let a = test .before .before .before .args in
-    parts-served _ _ _ _ _ _ _ _ _ _ _ _ (a .held) _ _ (a .g)
+    put-served s (a .sizes) (now (a .gang)) (now (a .core)) (now (a .state)) (now (a .number)) (now (a .served)) (now (a .skipped)) (now (a .job)) (a .held) (a .g)
     (sym (test .before .all-finished .ensures) ∙ test .if1 .taken) (ready .make-ready .ensures) (owe .make-owe .ensures)
-    (serve .serve .ensures .0) (serve .serve .ensures .1 .0) (serve .serve .ensures .1 .1) (c .value-of .ensures)
+    (serve .serve-release .ensures .0) (serve .serve-release .ensures .1 .0) (serve .serve-release .ensures .1 .1) (c .value-at .ensures)
 
-skip-requires : tie.Need-skip-requires
-skip-requires c κs = search needs
+skip-release-requires : tie.Need-skip-release-requires
+skip-release-requires c κs = search needs
 
-value-of-requires-2 : tie.Need-value-of-requires-2
-value-of-requires-2 c κs = search needs
+value-at-requires-2 : tie.Need-value-at-requires-2
+value-at-requires-2 c κs = search needs
 
 returns-2 : tie.Need-returns-2
-returns-2 c cores gangs priority budget occupant kept =
+returns-2 c s =
     let skip = c .before .before .before in
     let test = skip .before .before .before in
     let a = test .before .before .before .args in
-    parts-skipped _ _ _ _ _ _ _ _ _ _ _ _ (a .held) _ _ (a .g)
-    (sym (test .before .all-finished .ensures) ∙ test .if1 .left) (skip .skip .ensures .0) (skip .skip .ensures .1) (c .value-of2 .ensures)
+    put-skipped s (a .sizes) (now (a .gang)) (now (a .core)) (now (a .state)) (now (a .number)) (now (a .served)) (now (a .skipped)) (now (a .job)) (a .held) (a .g)
+    (sym (test .before .all-finished .ensures) ∙ test .if1 .left) (skip .skip-release .ensures .0) (skip .skip-release .ensures .1) (c .value-at2 .ensures)
 
 pub released-spec : {M : Type 1} → statement M
 released-spec =
@@ -52,9 +53,9 @@ released-spec =
     all-finished-requires
     make-ready-requires
     make-owe-requires
-    serve-requires
-    value-of-requires
+    serve-release-requires
+    value-at-requires
     returns
-    skip-requires
-    value-of-requires-2
+    skip-release-requires
+    value-at-requires-2
     returns-2)

@@ -1,11 +1,23 @@
 -- `step` meets its contract: each arm of the match is the step of its event.
-use mathlib.Core.Path.{ap, _∙_}
-use Rattle.system.specs.Events.{stepOf}
-use Rattle.system.proofs.Parts.{parts-ticked}
+use Prim.Native.Nat.{ℕ}
+use mathlib.Core.List.{List}
+use mathlib.Core.Path.{sym, ap, _∙_}
 use denote.Ref.{now}
+use Rattle.wire.specs.declared.answer.Answer.the-variants.{Done}
+use Rattle.system.specs.declared.System.{System}
+use Rattle.system.specs.Events.{replyOf, stepOf}
+use Rattle.system.specs.Parts.{systemOf}
+use Rattle.system.specs.System.{withKept}
 use borrow.Author.Needs.{needs}
 use Rattle.system.proofs.steps.step.Statement.{statement}
 use Rattle.system.proofs.steps.step.Tie as tie
+
+-- the system of the parts as they were lent
+abbrev lent : tie.Start → System
+lent c =
+    let a = c .args in
+    systemOf (a .sizes) (now (a .priority)) (now (a .budget)) (now (a .gang)) (now (a .core)) (now (a .state)) (now (a .number)) (now (a .served))
+    (now (a .skipped)) (now (a .job)) (a .held) (now (a .occupant)) (now (a .kept))
 
 enum-known-event : tie.Need-enum-known-event
 enum-known-event c = search needs
@@ -50,32 +62,46 @@ tick-requires : tie.Need-tick-requires
 tick-requires c κs = search needs
 
 returns : tie.Need-returns
-unfolding stepOf
-returns c = ap (stepOf _) (c .before .before .before .before .before .before .before .event .given .1) ∙ c .release .ensures _ _ _ _ _
+unfolding stepOf systemOf
+returns c =
+    let told = c .before .before .before .before .before .before .before in
+    ap (stepOf _) (told .event .given .1) ∙ c .release .ensures (lent (told .before .before))
 
 returns-2 : tie.Need-returns-2
-unfolding stepOf
-returns-2 c = ap (stepOf _) (c .before .before .before .before .event2 .given .1) ∙ c .leave .ensures _ _ _ _ _ _ _ _ _ _
+unfolding stepOf systemOf
+returns-2 c =
+    let told = c .before .before .before .before in
+    ap (stepOf _) (told .event2 .given .1) ∙ c .leave .ensures (lent (told .before .before))
 
 returns-3 : tie.Need-returns-3
-unfolding stepOf
-returns-3 c = ap (stepOf _) (c .before .before .before .before .event3 .given .1) ∙ c .leave2 .ensures _ _ _ _ _ _ _ _ _ _
+unfolding stepOf systemOf
+returns-3 c =
+    let told = c .before .before .before .before in
+    ap (stepOf _) (told .event3 .given .1) ∙ c .leave2 .ensures (lent (told .before .before))
 
 returns-4 : tie.Need-returns-4
-unfolding stepOf
-returns-4 c = ap (stepOf _) (c .before .before .before .event4 .given .1) ∙ c .wake .ensures _ _ _ _ _ _ _ _ _ _ _
+unfolding stepOf systemOf
+returns-4 c =
+    let told = c .before .before .before in
+    ap (stepOf _) (told .event4 .given .1) ∙ c .wake .ensures (lent (told .before .before))
 
 returns-5 : tie.Need-returns-5
-unfolding stepOf
-returns-5 c = ap (stepOf _) (c .before .before .before .before .event5 .given .1) ∙ c .serve .ensures _ _ _ _ _ _ _
+unfolding stepOf systemOf
+returns-5 c =
+    let told = c .before .before .before .before in
+    ap (stepOf _) (told .event5 .given .1) ∙ c .serve .ensures (lent (told .before .before))
 
 returns-6 : tie.Need-returns-6
-unfolding stepOf
-returns-6 c = ap (stepOf _) (c .before .before .before .before .event6 .given .1) ∙ c .traffic .ensures _ _ _ _ _ _ _ _ _ _
+unfolding stepOf systemOf
+returns-6 c =
+    let told = c .before .before .before .before in
+    ap (stepOf _) (told .event6 .given .1) ∙ c .traffic .ensures (lent (told .before .before))
 
 returns-7 : tie.Need-returns-7
-unfolding stepOf
-returns-7 c = ap (stepOf _) (c .before .before .enum-told .given .1) ∙ parts-ticked _ _ _ _ _ _ _ _ _ _ _ _ _ _ (now (c .before .before .before .before .args .kept)) (c .tick .ensures)
+unfolding stepOf systemOf
+returns-7 c =
+    let told = c .before .before in
+    ap (stepOf _) (told .enum-told .given .1) ∙ ap (λ (kept : List ℕ). replyOf (withKept (lent (told .before .before)) kept) Done) (sym (c .tick .ensures))
 
 pub step-spec : {M : Type 1} → statement M
 step-spec =

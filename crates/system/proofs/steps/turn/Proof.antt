@@ -6,11 +6,11 @@ use borrow.Author.Needs.{needs}
 use Rattle.system.proofs.steps.turn.Statement.{statement}
 use Rattle.system.proofs.steps.turn.Tie as tie
 
-set-thread-requires : tie.Need-set-thread-requires
-set-thread-requires c κs = search needs
+put-requires : tie.Need-put-requires
+put-requires c κs = search needs
 
-thread-at-requires : tie.Need-thread-at-requires
-thread-at-requires c κs = search needs
+at-requires : tie.Need-at-requires
+at-requires c κs = search needs
 
 owe-requires : tie.Need-owe-requires
 owe-requires c κs = search needs
@@ -19,7 +19,7 @@ returns : tie.Need-returns
 returns c =
     let at = c .before in
     let set = at .before .before in
-    (set .set-thread .ensures, (λ o. c .owe .ensures o ∙ ap (oweOf (lockOf (set .before .before .args .held) o)) (at .thread-at .ensures), refl))
+    (set .put .ensures, (λ o. c .owe .ensures o ∙ ap (oweOf (lockOf (set .before .before .args .held) o)) (at .at .ensures), refl))
 
 pub turn-spec : {M : Type 1} → statement M
-turn-spec = tie.close (tie.spec set-thread-requires thread-at-requires owe-requires returns)
+turn-spec = tie.close (tie.spec put-requires at-requires owe-requires returns)

@@ -2,6 +2,7 @@
 use borrow.Author.Needs.{needs}
 use mathlib.Core.Bool.{_&&_}
 use mathlib.Core.Path.{ap₂}
+use Rattle.system.specs.Parts.{systemOf}
 use Rattle.system.specs.WellFormed.{wellFormed}
 use Rattle.system.proofs.well_formed.parts_ok.Statement.{statement}
 use Rattle.system.proofs.well_formed.parts_ok.Tie as tie
@@ -22,13 +23,14 @@ lock-ok-requires : tie.Need-lock-ok-requires
 lock-ok-requires c κs = search needs
 
 returns : tie.Need-returns
-unfolding wellFormed
+unfolding wellFormed systemOf
 returns c =
     let ledgers = c .before in
     let counts = ledgers .before in
     let states = counts .before in
     let tables = states .before in
-    ap₂ _&&_ (ap₂ _&&_ (ap₂ _&&_ (ap₂ _&&_ (tables .table-ok .ensures) (states .states-ok .ensures)) (counts .counts-ok .ensures)) (ledgers .ledger-ok .ensures)) (c .lock-ok .ensures)
+    let three = ap₂ _&&_ (ap₂ _&&_ (tables .table-ok .ensures) (states .states-ok .ensures)) (counts .counts-ok .ensures) in
+    ap₂ _&&_ (ap₂ _&&_ three (ledgers .ledger-ok .ensures)) (c .lock-ok .ensures)
 
 pub parts-ok-spec : {M : Type 1} → statement M
 parts-ok-spec =

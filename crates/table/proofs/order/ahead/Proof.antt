@@ -1,5 +1,5 @@
 -- `table::order::ahead`: both readings are the gangs' priorities.
-use Rattle.table.specs.Order.{ahead}
+use Rattle.table.specs.Order.{aheadBy}
 use Rattle.table.proofs.order.ahead.Statement.{statement}
 use Rattle.table.proofs.order.ahead.Tie as tie
 
@@ -10,7 +10,7 @@ at-requires-2 : tie.Need-at-requires-2
 at-requires-2 c κs = tt
 
 returns : tie.Need-returns
-unfolding ahead
+unfolding aheadBy
 returns c = rw (c .before .before .at .ensures, c .at2 .ensures)
 
 pub ahead-spec : {M : Type 1} → statement M

@@ -1,21 +1,24 @@
 -- `table::order::first_ready`: the loop keeps the first of the threads that it has passed.
-use Prim.Native.Nat.{_≤_, _-_}
+use Prim.Native.Nat.{_-_}
 use native.Mathlib.Omega.{arith}
-use mathlib.Core.Path.{_≡_, ap, _∙_, refl}
-use Rattle.pick.specs.Pick.{pickBelow, pick-more}
-use Rattle.table.specs.Order.{standing, before, firstReady}
+use mathlib.Core.Path.{_≡_, refl, _∙_}
+use Rattle.ranges.specs.laws.Pass.{Upto, upto-all}
+use Rattle.pick.specs.Pick.{pickBelow}
+use Rattle.pick.specs.laws.Pick.{pick-more}
+use Rattle.table.specs.Order.{standsAt, beforeBy, firstReady}
 use Rattle.table.proofs.order.first_ready.Statement.{statement}
 use Rattle.table.proofs.order.first_ready.Tie as tie
 
 abbrev Inv-loop : tie.InvT-loop
-Inv-loop state core gang priority threads c best₀ t₀ best t = (t ≤ threads) × (best ≡ pickBelow (standing state core c) (before gang priority) t)
+Inv-loop state core gang priority threads c best₀ t₀ best t =
+    Upto threads (λ n. best ≡ pickBelow (standsAt state core c) (beforeBy gang priority) n) t
 
 abbrev μ-loop : tie.MeasureT-loop
 μ-loop state core gang priority threads c best₀ t₀ best t = threads - t
 
 loop-holds : tie.Need-loop-holds Inv-loop μ-loop
 unfolding pickBelow
-loop-holds c = (omega arith, refl)
+loop-holds c = record { place = omega arith; holds = refl }
 
 first-with-requires : tie.Need-first-with-requires Inv-loop μ-loop
 first-with-requires c κs = tt
@@ -27,11 +30,11 @@ loop-less : tie.Need-loop-less Inv-loop μ-loop
 loop-less c = omega arith
 
 loop-again : tie.Need-loop-again Inv-loop μ-loop
-loop-again c = (omega arith, c .first-with .ensures ∙ pick-more _ _ _ _ (c .before .before .loop .inv .1))
+loop-again c = record { place = omega arith; holds = c .first-with .ensures ∙ pick-more _ _ _ _ (c .before .before .loop .inv .holds) }
 
 returns : tie.Need-returns Inv-loop μ-loop
 unfolding firstReady
-returns c = let e : c .before .loop .t ≡ c .before .before .args .threads = omega arith in c .before .loop .inv .1 ∙ ap (pickBelow _ _) e
+returns c = upto-all (c .before .loop .inv) (c .loop-test .left)
 
 pub first-ready-spec : {M : Type 1} → statement M
 first-ready-spec =

@@ -1,12 +1,12 @@
 -- `table::rules::distinct`: the loop keeps that the marks are those of the priorities passed, and whether each of these was free.
-use Prim.Native.Nat.{_≤_, _-_}
+use Prim.Native.Nat.{_-_}
 use native.Mathlib.Omega.{arith}
-use mathlib.Core.Path.{_≡_, refl, sym, ap, ap₂, _∙_}
-use mathlib.Core.Bool.{not, _&&_}
+use mathlib.Core.Path.{ap}
+use mathlib.Core.Bool.{not}
 use lib.ListN.{getD}
-use Rattle.ranges.specs.Range.{every, every-more}
-use Rattle.table.specs.Passes.{Marked, marked-none, marked-met, marked-more}
-use Rattle.table.specs.Occurs.{occurs}
+use Rattle.ranges.specs.laws.Pass.{Passed, passed-none, passed-more, passed-all}
+use Rattle.table.specs.Occurs.{Marked, occurs}
+use Rattle.table.specs.laws.Occurs.{marked-none, marked-met, marked-more}
 use Rattle.table.specs.Rules.{distinct}
 use borrow.Author.Needs.{needs}
 use Rattle.table.proofs.rules.distinct.Statement.{statement}
@@ -14,14 +14,13 @@ use Rattle.table.proofs.rules.distinct.Tie as tie
 
 abbrev Inv-loop : tie.InvT-loop
 Inv-loop priority gangs seen₀ ok₀ g₀ seen ok g =
-    (g ≤ gangs) × (Marked priority g seen × (ok ≡ every g (λ h. not (occurs priority h (getD priority h 0)))))
+    Passed gangs (λ h. not (occurs priority h (getD priority h 0))) g ok × Marked priority g seen
 
 abbrev μ-loop : tie.MeasureT-loop
 μ-loop priority gangs seen₀ ok₀ g₀ seen ok g = gangs - g
 
 loop-holds : tie.Need-loop-holds Inv-loop μ-loop
-unfolding every
-loop-holds c = (omega arith, (marked-none _, refl))
+loop-holds c = (passed-none _ _, marked-none _)
 
 at-requires : tie.Need-at-requires Inv-loop μ-loop
 at-requires c κs = search needs
@@ -43,15 +42,14 @@ loop-less c = omega arith
 
 loop-again : tie.Need-loop-again Inv-loop μ-loop
 loop-again c =
-    let inv = c .before .before .before .loop .inv in
-    let met = marked-met _ _ _ _ (c .at .ensures) (omega arith) (inv .1 .0) in
-    (omega arith, (marked-more _ _ _ _ (c .at .ensures) (omega arith) (inv .1 .0), ap₂ _&&_ (inv .1 .1) (ap not met) ∙ sym (every-more _ _)))
+    let turn = c .before .before in
+    let inv = turn .before .loop .inv in
+    let met = marked-met _ _ _ _ (c .at .ensures) (omega arith) (inv .1) in
+    (passed-more (inv .0) (turn .loop-test .taken) (ap not met), marked-more _ _ _ _ (c .at .ensures) (omega arith) (inv .1))
 
 returns : tie.Need-returns Inv-loop μ-loop
 unfolding distinct
-returns c =
-    let e : c .before .loop .g ≡ c .before .before .args .gangs = omega arith in
-    rw e at (c .before .loop .inv .1 .1)
+returns c = passed-all (c .before .loop .inv .0) (c .loop-test .left)
 
 pub distinct-spec : {M : Type 1} → statement M
 distinct-spec =

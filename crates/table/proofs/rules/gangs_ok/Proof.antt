@@ -1,23 +1,20 @@
 -- `table::rules::gangs_ok`: the loop keeps whether every place passed is right.
 use borrow.Author.Needs.{needs}
-use Prim.Native.Nat.{_≤_, _-_}
-use mathlib.Core.Path.{_≡_, refl, sym, ap₂, _∙_}
-use mathlib.Core.Bool.{_&&_}
-use native.Mathlib.Omega.{arith}
-use Rattle.ranges.specs.Range.{every, every-more}
+use Prim.Native.Nat.{_-_}
+use Rattle.ranges.specs.laws.Pass.{Passed, passed-none, passed-more, passed-all}
+use Rattle.table.specs.Numbers.{maxGangs}
 use Rattle.table.specs.Rules.{gangPlace, gangsOk}
 use Rattle.table.proofs.rules.gangs_ok.Statement.{statement}
 use Rattle.table.proofs.rules.gangs_ok.Tie as tie
 
 abbrev Inv-loop : tie.InvT-loop
-Inv-loop priority budget gangs ok₀ g₀ ok g = (g ≤ 32) × (ok ≡ every g (gangPlace priority budget gangs))
+Inv-loop priority budget gangs ok₀ g₀ ok g = Passed maxGangs (gangPlace priority budget gangs) g ok
 
 abbrev μ-loop : tie.MeasureT-loop
-μ-loop priority budget gangs ok₀ g₀ ok g = 32 - g
+μ-loop priority budget gangs ok₀ g₀ ok g = maxGangs - g
 
 loop-holds : tie.Need-loop-holds Inv-loop μ-loop
-unfolding every
-loop-holds c = (omega arith, refl)
+loop-holds c = passed-none _ _
 
 cast-i : tie.Need-cast-i Inv-loop μ-loop
 cast-i c = search needs
@@ -41,13 +38,11 @@ loop-less : tie.Need-loop-less Inv-loop μ-loop
 loop-less c = search needs
 
 loop-again : tie.Need-loop-again Inv-loop μ-loop
-loop-again c = (omega arith, ap₂ _&&_ (c .before .before .before .before .loop .inv .1) (c .gang-ok .ensures) ∙ sym (every-more _ _))
+loop-again c = let turn = c .before .before .before in passed-more (turn .before .loop .inv) (turn .loop-test .taken) (c .gang-ok .ensures)
 
 returns : tie.Need-returns Inv-loop μ-loop
 unfolding gangsOk
-returns c =
-    let e : c .before .loop .g ≡ 32 = omega arith in
-    rw e at (c .before .loop .inv .1)
+returns c = passed-all (c .before .loop .inv) (c .loop-test .left)
 
 pub gangs-ok-spec : {M : Type 1} → statement M
 gangs-ok-spec =

@@ -1,9 +1,7 @@
 -- `table::rules::manned`: the marks tell of each gang whether it has a thread, and the loop keeps whether those passed have one.
-use Prim.Native.Nat.{_≤_, _-_}
+use Prim.Native.Nat.{_-_}
 use native.Mathlib.Omega.{arith}
-use mathlib.Core.Bool.{_&&_}
-use mathlib.Core.Path.{_≡_, refl, sym, ap₂, _∙_}
-use Rattle.ranges.specs.Range.{every, every-more}
+use Rattle.ranges.specs.laws.Pass.{Passed, passed-none, passed-more, passed-all}
 use Rattle.table.specs.Occurs.{occurs}
 use Rattle.table.specs.Rules.{manned}
 use borrow.Author.Needs.{needs}
@@ -11,7 +9,7 @@ use Rattle.table.proofs.rules.manned.Statement.{statement}
 use Rattle.table.proofs.rules.manned.Tie as tie
 
 abbrev Inv-loop : tie.InvT-loop
-Inv-loop gang gangs threads seen ok₀ g₀ ok g = (g ≤ gangs) × (ok ≡ every g (occurs gang threads))
+Inv-loop gang gangs threads seen ok₀ g₀ ok g = Passed gangs (occurs gang threads) g ok
 
 abbrev μ-loop : tie.MeasureT-loop
 μ-loop gang gangs threads seen ok₀ g₀ ok g = gangs - g
@@ -20,8 +18,7 @@ gangs-of-requires : tie.Need-gangs-of-requires Inv-loop μ-loop
 gangs-of-requires c κs = search needs
 
 loop-holds : tie.Need-loop-holds Inv-loop μ-loop
-unfolding every
-loop-holds c = (omega arith, refl)
+loop-holds c = passed-none _ _
 
 cast-i : tie.Need-cast-i Inv-loop μ-loop
 cast-i c = omega arith
@@ -36,13 +33,11 @@ loop-less : tie.Need-loop-less Inv-loop μ-loop
 loop-less c = omega arith
 
 loop-again : tie.Need-loop-again Inv-loop μ-loop
-loop-again c = (omega arith, ap₂ _&&_ (c .before .loop .inv .1) (c .before .before .gangs-of .ensures .marks _ (omega arith)) ∙ sym (every-more _ _))
+loop-again c = passed-more (c .before .loop .inv) (c .loop-test .taken) (c .before .before .gangs-of .ensures .marks _ (omega arith))
 
 returns : tie.Need-returns Inv-loop μ-loop
 unfolding manned
-returns c =
-    let e : c .before .loop .g ≡ c .before .before .before .args .gangs = omega arith in
-    rw e at (c .before .loop .inv .1)
+returns c = passed-all (c .before .loop .inv) (c .loop-test .left)
 
 pub manned-spec : {M : Type 1} → statement M
 manned-spec =

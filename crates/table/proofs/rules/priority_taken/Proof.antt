@@ -1,21 +1,22 @@
 -- `table::rules::priority_taken`: the loop keeps that no gang passed has the priority, and one that has it decides.
-use Prim.Native.Nat.{ℕ, _≤_, _<_, _-_}
+use Prim.Native.Nat.{_-_}
 use native.Mathlib.Omega.{arith}
 use mathlib.Core.Path.{_≡_, sym, _∙_}
-use lib.ListN.{getD}
-use borrow.Author.Count.{below-none, below-more}
-use Rattle.table.specs.Occurs.{make-occurs, make-not-occurs}
+use mathlib.Core.Bool.{false}
+use Rattle.ranges.specs.laws.Pass.{Upto, upto-all}
+use Rattle.table.specs.Occurs.{occurs}
+use Rattle.table.specs.laws.Occurs.{make-occurs, occurs-none, occurs-other}
 use Rattle.table.proofs.rules.priority_taken.Statement.{statement}
 use Rattle.table.proofs.rules.priority_taken.Tie as tie
 
 abbrev Inv-loop : tie.InvT-loop
-Inv-loop priority gangs p g₀ g = (g ≤ gangs) × ((h : ℕ) → h < g → getD priority h 0 ≡ p → ⊥)
+Inv-loop priority gangs p g₀ g = Upto gangs (λ n. occurs priority n p ≡ false) g
 
 abbrev μ-loop : tie.MeasureT-loop
 μ-loop priority gangs p g₀ g = gangs - g
 
 loop-holds : tie.Need-loop-holds Inv-loop μ-loop
-loop-holds c = (omega arith, below-none _)
+loop-holds c = record { place = omega arith; holds = occurs-none _ _ }
 
 at-requires : tie.Need-at-requires Inv-loop μ-loop
 at-requires c κs = tt
@@ -32,10 +33,13 @@ loop-less : tie.Need-loop-less Inv-loop μ-loop
 loop-less c = omega arith
 
 loop-again : tie.Need-loop-again Inv-loop μ-loop
-loop-again c = (omega arith, below-more _ _ (c .before .before .before .before .loop .inv .1) (λ e. c .if1 .left (c .before .at .ensures ∙ e)))
+loop-again c = record {
+  place = omega arith;
+  holds = occurs-other _ _ _ (λ e. c .if1 .left (c .before .at .ensures ∙ e)) ∙ c .before .before .before .before .loop .inv .holds;
+}
 
 returns-2 : tie.Need-returns-2 Inv-loop μ-loop
-returns-2 c = sym (make-not-occurs _ _ _ (λ i l. c .before .loop .inv .1 i (omega arith)))
+returns-2 c = sym (upto-all (c .before .loop .inv) (c .loop-test .left))
 
 pub priority-taken-spec : {M : Type 1} → statement M
 priority-taken-spec =

@@ -12,7 +12,7 @@ use Rattle.table.proofs.rules.table_ok.Tie as tie
 abbrev table-1 : tie.Else1 → Table
 table-1 c =
     let a = c .before .before .args in
-    tableOf (a .cores) (a .gangs) (a .threads) (now (a .priority)) (now (a .budget)) (now (a .gang)) (now (a .core))
+    tableOf (a .sizes) (now (a .priority)) (now (a .budget)) (now (a .gang)) (now (a .core))
 
 abbrev table-2 : tie.Else2 → Table
 table-2 c = table-1 (c .before .before)

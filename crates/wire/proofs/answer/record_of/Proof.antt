@@ -3,18 +3,18 @@ use borrow.Author.Needs.{needs}
 use Rattle.wire.proofs.answer.record_of.Statement.{statement}
 use Rattle.wire.proofs.answer.record_of.Tie as tie
 
-refusal-in-requires : tie.Need-refusal-in-requires
-refusal-in-requires c κs = search needs
+answer-refusal-requires : tie.Need-answer-refusal-requires
+answer-refusal-requires c κs = search needs
 
-value-in-requires : tie.Need-value-in-requires
-value-in-requires c κs = search needs
+answer-value-requires : tie.Need-answer-value-requires
+answer-value-requires c κs = search needs
 
-number-in-requires : tie.Need-number-in-requires
-number-in-requires c κs = search needs
+answer-number-requires : tie.Need-answer-number-requires
+answer-number-requires c κs = search needs
 
 returns : tie.Need-returns
-returns c = rw (c .number-in .ensures, c .before .value-in .ensures, c .before .before .refusal-in .ensures)
+returns c = rw (c .answer-number .ensures, c .before .answer-value .ensures, c .before .before .answer-refusal .ensures)
 
 pub record-of-spec : {M : Type 1} → statement M
 record-of-spec =
-    tie.close (tie.spec refusal-in-requires value-in-requires number-in-requires returns)
+    tie.close (tie.spec answer-refusal-requires answer-value-requires answer-number-requires returns)

@@ -1,24 +1,24 @@
--- `wire::kinds::length_fits` meets its contract. The loop's invariant: the pairs from i on decide, as the whole list does.
+-- `wire::kinds::length_fits` meets its contract: it looks for the first pair of that kind and that length.
 use borrow.Author.Needs.{needs}
-use Prim.Native.Nat.{ℕ, _≤_, _-_}
-use mathlib.Core.Path.{_≡_, refl, ap, sym, _∙_}
-use mathlib.Core.List.{[]}
+use borrow.Author.Tests.{eq-eqb, ne-eqb}
+use Prim.Native.Nat.{_-_}
+use mathlib.Core.Path.{_≡_}
+use mathlib.Core.Bool.{true, false}
 use mathlib.Core.Logic.{⊎-elim}
 use native.Mathlib.Omega.{arith}
-use lib.ListN.{drop}
-use Rattle.wire.specs.Kinds.{fitsIn, lengths}
-use Rattle.wire.proofs.Lengths.{fits-here, other-kind, other-length}
+use Rattle.wire.specs.Kinds.{isPair, lengths}
+use Rattle.wire.proofs.Lengths.{pairAt, Decides, starts, finds, passes-by, finds-none}
 use Rattle.wire.proofs.kinds.length_fits.Statement.{statement}
 use Rattle.wire.proofs.kinds.length_fits.Tie as tie
 
 abbrev Inv-loop : tie.InvT-loop
-Inv-loop kind len pairs i₀ i = (i ≤ 12) × (fitsIn kind len (drop i lengths) ≡ fitsIn kind len lengths)
+Inv-loop kind len pairs i₀ i = Decides (isPair kind len) (λ p. true) false lengths i
 
 abbrev μ-loop : tie.MeasureT-loop
 μ-loop kind len pairs i₀ i = 12 - i
 
 loop-holds : tie.Need-loop-holds Inv-loop μ-loop
-loop-holds c = (search needs, refl)
+loop-holds c = starts _ _ _ _
 
 mul-p : tie.Need-mul-p Inv-loop μ-loop
 mul-p c = omega arith
@@ -31,8 +31,8 @@ unfolding lengths
 returns c =
     let a = c .before .before .before .before .before .before .before .args in
     let l = c .before .before .before .before .before .before .loop in
-    let h = c .before .before .before .before .before .loop-test .taken in
-    sym (fits-here (a .kind) (a .len) (l .i) lengths h (c .before .before .if1 .taken) (c .if2 .taken)) ∙ l .inv .1
+    let e : isPair (a .kind) (a .len) (pairAt lengths (l .i)) ≡ true = rw (eq-eqb _ _ (c .before .before .if1 .taken), eq-eqb _ _ (c .if2 .taken)) in
+    finds (isPair (a .kind) (a .len)) (λ p. true) false lengths (l .i) (l .inv) (c .before .before .before .before .before .loop-test .taken) e
 
 add-i : tie.Need-add-i Inv-loop μ-loop
 add-i c = search needs
@@ -45,19 +45,16 @@ unfolding lengths
 loop-again c =
     let a = c .before .before .before .before .before .args in
     let l = c .before .before .before .before .loop in
-    let h = c .before .before .before .loop-test .taken in
-    let further = ⊎-elim
-    (λ w. sym (other-length (a .kind) (a .len) (l .i) lengths h (w .0 .taken) (w .2 .left)) ∙ l .inv .1)
-    (λ w. sym (other-kind (a .kind) (a .len) (l .i) lengths h (w .left)) ∙ l .inv .1)
+    let e : isPair (a .kind) (a .len) (pairAt lengths (l .i)) ≡ false =
+    ⊎-elim
+    (λ w. rw (eq-eqb _ _ (w .0 .taken), ne-eqb _ _ (w .2 .left)))
+    (λ w. rw (ne-eqb _ _ (w .left)))
     (c .if1 .came) in
-    (omega arith, further)
+    passes-by (isPair (a .kind) (a .len)) (λ p. true) false lengths (l .i) (l .inv) (c .before .before .before .loop-test .taken) e
 
 returns-2 : tie.Need-returns-2 Inv-loop μ-loop
 unfolding lengths
-returns-2 c =
-    let e : c .before .loop .i ≡ 12 = omega arith in
-    let h : drop (c .before .loop .i) lengths ≡ [] = ap (λ (k : ℕ). drop k lengths) e in
-    rw h at (c .before .loop .inv .1)
+returns-2 c = finds-none _ _ _ lengths (c .before .loop .i) (c .before .loop .inv) (c .loop-test .left)
 
 pub length-fits-spec : {M : Type 1} → statement M
 length-fits-spec =

@@ -3,7 +3,6 @@ use borrow.Author.Needs.{needs}
 use denote.Ref.{now}
 use Prim.Native.Nat.{_+_}
 use native.Mathlib.Omega.{arith}
-use Rattle.wire.specs.Number.{le16}
 use Rattle.wire.proofs.Beyond.{le16-beyond}
 use Rattle.wire.proofs.number.u32_at.Statement.{statement}
 use Rattle.wire.proofs.number.u32_at.Tie as tie

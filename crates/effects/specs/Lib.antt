@@ -1,0 +1,10 @@
+pub mod Facts
+pub mod Ways
+pub mod WaysLaws
+pub mod Refusals
+pub mod Leaves
+pub mod WellFormedLaws
+pub mod Keeps
+pub mod Applied
+pub mod Standing
+pub mod laws

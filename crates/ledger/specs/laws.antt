@@ -1,0 +1,3 @@
+pub mod LedgerKept
+pub mod LedgerOk
+pub mod Ledger

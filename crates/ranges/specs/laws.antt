@@ -1,0 +1,4 @@
+pub mod Logic
+pub mod Pass
+pub mod Places
+pub mod Range

@@ -1,0 +1,2 @@
+pub mod FirstHeld
+pub mod Why
