@@ -1,4 +1,6 @@
 -- `System::job_number` meets its contract: the value is the one that the definition names.
+use mathlib.Core.Path.{ap, _∙_}
+use Rattle.system.specs.Questions.{aboutOne}
 use borrow.Author.Needs.{needs}
 use Rattle.system.proofs.System.job_number.Statement.{statement}
 use Rattle.system.proofs.System.job_number.Tie as tie
@@ -10,7 +12,7 @@ about-one-requires : tie.Need-about-one-requires
 about-one-requires c κs = search needs
 
 returns : tie.Need-returns
-returns c = cc
+returns c = c .about-one .ensures ∙ ap (aboutOne _ _ _) (c .before .value-at .ensures)
 
 pub job-number-spec : {M : Type 1} → statement M
 job-number-spec = tie.close (tie.spec value-at-requires about-one-requires returns)

@@ -1,7 +1,5 @@
 -- `System::stopped` meets its contract: 1 where the core is stopped and 0 where not.
-use Rattle.system.specs.Stop.{stopped}
-use mathlib.Core.Bool.{true, false}
-use mathlib.Core.Path.{_≡_}
+use mathlib.Core.Path.{sym, _∙_}
 use borrow.Author.Needs.{needs}
 use Rattle.system.proofs.System.stopped.Statement.{statement}
 use Rattle.system.proofs.System.stopped.Tie as tie
@@ -16,10 +14,10 @@ about-one-requires-2 : tie.Need-about-one-requires-2
 about-one-requires-2 c κs = search needs
 
 returns : tie.Need-returns
-returns c = let a = c .before .before .before .before .before .before .before .before .before .before .before .args in let x : stopped (a .t1) (a .c) ≡ true = cc in rw x (c .about-one .ensures)
+returns c = rw (sym (c .before .before .is-stopped .ensures) ∙ c .before .if1 .taken) (c .about-one .ensures)
 
 returns-2 : tie.Need-returns-2
-returns-2 c = let a = c .before .before .before .before .before .before .before .before .before .before .before .args in let x : stopped (a .t1) (a .c) ≡ false = cc in rw x (c .about-one2 .ensures)
+returns-2 c = rw (sym (c .before .before .is-stopped .ensures) ∙ c .before .if1 .left) (c .about-one2 .ensures)
 
 pub stopped-spec : {M : Type 1} → statement M
 stopped-spec =
