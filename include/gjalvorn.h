@@ -1,4 +1,4 @@
-// Gjalvorn for C99 and C++: the verified core of a real-time gang scheduler, in libffi.a for x86-64. "Document 01" is its scope document.
+// Gjalvorn for C99 and C++: the verified core of a real-time gang scheduler, in libffi.a for x86-64. Its rules: docs/RULES.md.
 //
 // A system is a plain value. The calls take it by value; an event gives the next system beside its answer, and the caller keeps
 // whichever it wants. Only gjalvorn_apply_lent, and gjalvorn_apply_to over it, change a system where it is. The calls keep no state
@@ -81,7 +81,7 @@ enum gjalvorn_reason {
     GJALVORN_WHY_NONE = 8               // none of these
 };
 
-// The refusal numbers, each given exactly when document 01 says; 0 says that nothing is refused. The order is 14; 1 for fewer than four
+// The refusal numbers, each given exactly when docs/RULES.md says; 0 says that nothing is refused. The order is 14; 1 for fewer than four
 // bytes; 2; 3; 1 for a record that is not whole; 13; then 4, 5, 6, 7, 9 to 12; 8 at the table's end.
 enum gjalvorn_refusal {
     GJALVORN_ACCEPTED = 0,
@@ -221,7 +221,7 @@ gjalvorn_read gjalvorn_read_table(const uint8_t *bytes, size_t length);
 // end, before the record that stops it. Output past the written bytes is untouched. With 14 nothing is read or written.
 gjalvorn_batched gjalvorn_batch(gjalvorn_system system, const uint8_t *events, size_t length, uint8_t *out, size_t room);
 
-// Whether the system is well formed, as document 01 lists it. Every system that a call gives for a well-formed one is.
+// Whether the system is well formed, as docs/RULES.md lists it. Every system that a call gives for a well-formed one is.
 bool gjalvorn_well_formed(gjalvorn_system system);
 
 // ---- The events. Each is refused with 14 for a system that is not well formed, then with 6 for a number that is not in the table.
