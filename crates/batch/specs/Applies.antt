@@ -7,9 +7,10 @@ use lib.ListN.{length, drop}
 use Rattle.system.specs.declared.System.{System}
 use Rattle.system.specs.declared.events.Reply.{Reply}
 use Rattle.wire.specs.declared.event.Event.{Event}
+use Rattle.effects.specs.Run.{systemAfter}
 use Rattle.batch.specs.Turn.{Run, written}
 use Rattle.batch.specs.Stops.{Stops}
-use Rattle.batch.specs.History.{systemAfter, answersTo}
+use Rattle.batch.specs.History.{answersTo}
 
 -- ---- the events of the bytes that were read
 

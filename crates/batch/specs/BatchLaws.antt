@@ -7,6 +7,7 @@ use native.Mathlib.Omega.{arith}
 use lib.ListN.{length, getD, take, length-take}
 use Rattle.system.specs.Events.{stepOf, applyOf}
 use Rattle.effects.specs.Facts.{Shaped}
+use Rattle.effects.specs.Run.{systemAfter}
 use Rattle.system.specs.WellFormed.{wellFormed}
 use Rattle.system.specs.declared.System.{System}
 use Rattle.wire.specs.Answer.{answerSize}
@@ -20,7 +21,7 @@ use Rattle.batch.specs.Turn.{Run, Came, written, batched, outputAfter, s
 use Rattle.batch.specs.Batch.{batchEnds, runOf, batchOf}
 use Rattle.batch.specs.laws.BatchCases.{batch-well, batch-ill}
 use Rattle.batch.specs.laws.Bounds.{written-is, read-fits, written-fits}
-use Rattle.batch.specs.History.{eventsOf, systemAfter}
+use Rattle.batch.specs.History.{eventsOf}
 use Rattle.batch.specs.laws.History.{answers-length, answer-at}
 use Rattle.batch.specs.laws.RunKeeps.{WellShaped, ran-sound, ran-apply}
 use Rattle.batch.specs.laws.Ran.{Ran, ends, ran, run-is}

@@ -1,6 +1,6 @@
--- The events of some bytes, and what they come to one after the other.
+-- The events of some bytes, and the ANSWER records of a run of events.
 use Prim.Native.Nat.{ℕ, zero, suc}
-use mathlib.Core.List.{List, [], _∷_, foldl}
+use mathlib.Core.List.{List, [], _∷_, map}
 use lib.ListN.{length, drop}
 use Rattle.system.specs.declared.System.{System}
 use Rattle.system.specs.declared.events.Reply.{Reply}
@@ -9,7 +9,7 @@ use Rattle.wire.specs.declared.answer.AnswerRecord.{AnswerRecord}
 use Rattle.wire.specs.declared.event.Event.{Event}
 use Rattle.wire.specs.declared.event.NextEvent.{NextEvent}
 use Rattle.wire.specs.declared.event.NextEvent.the-variants as found
-use Rattle.batch.specs.Turn.{answerTo}
+use Rattle.effects.specs.Run.{recordIn, historyBy}
 
 -- an event and those after its record
 abbrev pub andAfter : NextEvent → (ℕ → List Event) → List Event
@@ -25,13 +25,6 @@ eventsIn (suc n) s = andAfter (nextEvent s) (λ next. eventsIn n (drop next s))
 abbrev pub eventsOf : List ℕ → List Event
 eventsOf s = eventsIn (length s) s
 
--- step says what an event does
-module _ (step : System → Event → Reply) where
-  -- the system after some events
-  abbrev pub systemAfter : System → List Event → System
-  systemAfter = foldl (λ (s : System) (e : Event). step s e .system)
-
-  -- their answers: each event's on the system after those before it
-  abbrev pub answersTo : System → List Event → List AnswerRecord
-  answersTo s [] = []
-  answersTo s (e ∷ es) = answerTo (step s e) ∷ answersTo (step s e .system) es
+-- step says what an event does: the ANSWER records of the history of some events
+abbrev pub answersTo : (System → Event → Reply) → System → List Event → List AnswerRecord
+answersTo step s es = map recordIn (historyBy step s es)

@@ -7,4 +7,5 @@ pub mod WellFormedLaws
 pub mod Keeps
 pub mod Applied
 pub mod Standing
+pub mod Run
 pub mod laws

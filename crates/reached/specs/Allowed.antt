@@ -20,6 +20,7 @@ use Rattle.system.specs.Stop.{budgetIn, stopped}
 use Rattle.system.specs.Events.{stepOf, applyOf}
 use Rattle.effects.specs.WellFormedLaws.{formed-well}
 use Rattle.effects.specs.Applied.{apply-well}
+use Rattle.effects.specs.Run.{systemAfter, historyBy}
 use Rattle.reached.specs.Reached.{Accepted, after}
 use Rattle.reached.specs.History.{entryOf, history}
 use Rattle.reached.specs.laws.Runs.{start-shaped, start-formed, run-formed, after-append, entry-next}
@@ -65,7 +66,7 @@ module _ (b : Table) (a : Accepted b) (c : ℕ) where
       → (stop ≡ trulyStopped (after (freshSystem b) (before ++ (event.Traffic c n ∷ [])))
       (history (freshSystem b) (before ++ (event.Traffic c n ∷ []))) c)
       × (count ≡ min 1000000 (trueSum c (history (freshSystem b) (before ++ (event.Traffic c n ∷ [])))))
-  unfolding after
+  unfolding systemAfter
   traffic-tells before n stop count q =
       let told = counted-tells (after (freshSystem b) before) (run-formed b a before) c n stop count q in
       let then = after-append (freshSystem b) before (event.Traffic c n ∷ []) in
@@ -74,7 +75,7 @@ module _ (b : Table) (a : Accepted b) (c : ℕ) where
   -- "the core's count for the interval grows"
   pub traffic-adds : (before : List Event) (n : ℕ) (stop : Bool) (count : ℕ) → trafficAfter b before c n ≡ Counted stop count
       → trueSum c (history (freshSystem b) (before ++ (event.Traffic c n ∷ []))) ≡ trueSum c (history (freshSystem b) before) + n
-  unfolding history
+  unfolding historyBy
   traffic-adds before n stop count q =
       ap (trueSum c) (entry-next (freshSystem b) before (event.Traffic c n) [])
       ∙ sum-after c (history (freshSystem b) before) (entryOf (after (freshSystem b) before) (event.Traffic c n))
@@ -82,7 +83,7 @@ module _ (b : Table) (a : Accepted b) (c : ℕ) where
 
   -- TICK: "all counts become 0"
   pub tick-clears : (before : List Event) → trueSum c (history (freshSystem b) (before ++ (event.Tick ∷ []))) ≡ 0
-  unfolding history stepOf
+  unfolding historyBy stepOf
   tick-clears before =
       ap (trueSum c) (entry-next (freshSystem b) before event.Tick [])
       ∙ sum-after c (history (freshSystem b) before) (entryOf (after (freshSystem b) before) event.Tick)

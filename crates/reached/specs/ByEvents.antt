@@ -7,16 +7,17 @@ use Rattle.wire.specs.declared.event.Event.{Event}
 use Rattle.system.specs.declared.System.{System}
 use Rattle.system.specs.System.{freshSystem}
 use Rattle.system.specs.Events.{applyOf}
+use Rattle.effects.specs.Run.{systemAfter}
 use Rattle.reached.specs.Reached.{Accepted, after, Reached}
 use Rattle.reached.specs.laws.Runs.{after-append}
 
 pub fresh-reached : (b : Table) → Accepted b → Reached (freshSystem b)
-unfolding after
+unfolding systemAfter
 fresh-reached b a = record { table = b; accepted = a; events = []; reaches = refl }
 
 -- "reached from an accepted table by any events": by one more, accepted or refused
 pub event-reached : {s : System} → Reached s → (e : Event) → Reached (applyOf s e .system)
-unfolding after
+unfolding systemAfter
 event-reached R e = record {
   table = R .table;
   accepted = R .accepted;
@@ -27,7 +28,7 @@ event-reached R e = record {
 -- what every event keeps still holds after some events, and of every reached state where it holds of each fresh system
 module _ (P : System → Type 0) (keeps : (s : System) → Reached s → (e : Event) → P s → P (applyOf s e .system)) where
   pub kept-after : (s : System) (es : List Event) → Reached s → P s → P (after s es)
-  unfolding after
+  unfolding systemAfter
   kept-after s [] R p = p
   kept-after s (e ∷ es) R p = kept-after (applyOf s e .system) es (event-reached R e) (keeps s R e p)
 

@@ -13,22 +13,17 @@ use Rattle.wire.specs.declared.event.Event.the-variants as event
 use Rattle.wire.specs.Answer.{answerNumber}
 use Rattle.system.specs.declared.System.{System}
 use Rattle.system.specs.Events.{applyOf}
+use Rattle.effects.specs.Run.{Entry, entryWith, historyBy}
 
 -- ---- the history of a run
 
--- an event, and the answer that it was given
-pub record Entry : Type 0 where
-  pub event : Event
-  pub answer : Answer
-
 -- event e on s, as an entry
 abbrev pub entryOf : System → Event → Entry
-entryOf s e = record { event = e; answer = applyOf s e .answer }
+entryOf s e = entryWith e (applyOf s e)
 
 -- the events with their answers, one after the other
-unfoldable pub history : System → List Event → List Entry
-history s [] = []
-history s (e ∷ es) = entryOf s e ∷ history (applyOf s e .system) es
+abbrev pub history : System → List Event → List Entry
+history = historyBy applyOf
 
 -- ---- a release of gang g, told from its entry: all below reads the list of entries alone, never a system
 

@@ -2,7 +2,7 @@
 use Prim.Native.Nat.{_≤_}
 use mathlib.Core.Path.{_≡_}
 use mathlib.Core.Bool.{true}
-use mathlib.Core.List.{List, [], _∷_}
+use mathlib.Core.List.{List}
 use Rattle.table.specs.declared.Table.{Table}
 use Rattle.table.specs.Rules.{tableOk}
 use Rattle.wire.specs.declared.event.Event.{Event}
@@ -10,6 +10,7 @@ use Rattle.system.specs.declared.System.{System}
 use Rattle.system.specs.System.{freshSystem}
 use Rattle.system.specs.Events.{applyOf}
 use Rattle.effects.specs.Facts.{TableShaped}
+use Rattle.effects.specs.Run.{systemAfter}
 
 -- what reading a table that it accepts gives: a table that obeys the rules, with at least a core
 pub record Accepted (b : Table) : Type 0 where
@@ -18,9 +19,8 @@ pub record Accepted (b : Table) : Type 0 where
   pub shaped : TableShaped b
 
 -- the system after some events, accepted or refused
-unfoldable pub after : System → List Event → System
-after s [] = s
-after s (e ∷ es) = after (applyOf s e .system) es
+abbrev pub after : System → List Event → System
+after = systemAfter applyOf
 
 -- s is reached from an accepted table by some events
 pub record Reached (s : System) : Type 0 where

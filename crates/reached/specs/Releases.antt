@@ -13,6 +13,7 @@ use Rattle.wire.specs.declared.event.Event.{Event}
 use Rattle.wire.specs.declared.event.Event.the-variants as event
 use Rattle.system.specs.System.{freshSystem, numberIn}
 use Rattle.system.specs.Events.{applyOf}
+use Rattle.effects.specs.Run.{systemAfter}
 use Rattle.reached.specs.Reached.{Accepted, after}
 use Rattle.reached.specs.History.{history, Numbered, tookRelease, select, takenIn, servedIn, skippedIn, numbersOf, lastServed, countUp}
 use Rattle.reached.specs.laws.Runs.{start-shaped, start-formed, run-shaped, run-formed, after-append}
@@ -69,7 +70,7 @@ module _ (b : Table) (a : Accepted b) (g : ℕ) where
   pub job-carries : (before more : List Event) (n : ℕ) → releaseAfter b before g ≡ Served n
       → servedIn g (history (after (freshSystem b) (before ++ (event.Release g ∷ []))) more) ≡ 0
       → jobAt (after (freshSystem b) (before ++ (event.Release g ∷ more)) .ledger) g ≡ n
-  unfolding after
+  unfolding systemAfter
   job-carries before more n q none =
       rw (after-append (freshSystem b) before (event.Release g ∷ more))
       (served-carries (after (freshSystem b) before) (run-shaped b a before) (run-formed b a before) g n q more

@@ -8,7 +8,8 @@ use Rattle.wire.specs.declared.event.Event.the-variants as event
 use Rattle.system.specs.declared.System.{System}
 use Rattle.system.specs.Stop.{budgetIn}
 use Rattle.system.specs.System.{occupantIn}
-use Rattle.reached.specs.History.{Entry, isAccepted}
+use Rattle.effects.specs.Run.{Entry}
+use Rattle.reached.specs.History.{isAccepted}
 
 -- ---- "since the last TICK"
 

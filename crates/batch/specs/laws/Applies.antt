@@ -15,6 +15,7 @@ use Rattle.wire.specs.declared.answer.AnswerRecord.{AnswerRecord}
 use Rattle.wire.specs.declared.event.Event.{Event}
 use Rattle.wire.specs.declared.event.NextEvent.{NextEvent}
 use Rattle.wire.specs.declared.event.NextEvent.the-variants as found
+use Rattle.effects.specs.Run.{systemAfter, historyBy}
 use Rattle.batch.specs.Turn.{Run, answerTo}
 use Rattle.batch.specs.laws.Bounds.{room-left, read-fits}
 use Rattle.batch.specs.History.{andAfter, eventsIn}
@@ -46,6 +47,7 @@ one-read n m k e ev f l =
 
 pub ran-applies : {step : System → Event → Reply} {s : System} {ev : List ℕ} {room : ℕ} {r : Run} → Ran step s ev room r
     → (n : ℕ) → r .read ≤ n → Applies step s (eventsIn n (take (r .read) ev)) r
+unfolding systemAfter historyBy
 ran-applies (ends z) n l = rw (none-read n) (record { system = refl; answers = refl })
 ran-applies (halts p w) n l = rw (none-read n) (record { system = refl; answers = refl })
 ran-applies {ev} (goes {n = m} {e = e} f h q) zero l = let t = event-whole ev f in absurd (omega arith)

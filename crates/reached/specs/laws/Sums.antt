@@ -29,8 +29,9 @@ use Rattle.effects.specs.Standing.{budget-fits}
 use Rattle.effects.specs.Facts.{WellFormed}
 use Rattle.effects.specs.WellFormedLaws.{formed-well}
 use Rattle.effects.specs.Applied.{apply-well, apply-shaped, apply-keeps}
+use Rattle.effects.specs.Run.{Entry, entryWith, systemAfter, historyBy}
 use Rattle.reached.specs.Reached.{after}
-use Rattle.reached.specs.History.{Entry, entryOf, history}
+use Rattle.reached.specs.History.{entryOf, history}
 use Rattle.reached.specs.TrueSum.{ticked, lastTick, grownBy, totalOf, trueSum, trulyStopped}
 
 -- ---- the true sum, entry after entry
@@ -80,7 +81,7 @@ kept-grows k m n e = omega arith
 module _ (s : System) (h : Shaped s) (w : WellFormed s) (m : ℕ) where
   -- core c's kept count after the reply r to e
   abbrev Keeps : ℕ → Event → Reply → Type 0
-  Keeps c e r = keptIn s c ≡ min maxTraffic m → keptIn (r .system) c ≡ min maxTraffic (grown c m (record { event = e; answer = r .answer }))
+  Keeps c e r = keptIn s c ≡ min maxTraffic m → keptIn (r .system) c ≡ min maxTraffic (grown c m (entryWith e r))
 
   counted-adds : (d n : ℕ) → d < s .table .sizes .cores → (c : ℕ)
       → Keeps c (event.Traffic d n) (replyOf (counted s d n) (Counted (stopped (counted s d n) d) (keptIn (counted s d n) d)))
@@ -111,7 +112,7 @@ module _ (s : System) (h : Shaped s) (w : WellFormed s) (m : ℕ) where
 
 pub run-keeps : (c : ℕ) (s : System) → Shaped s → WellFormed s → (m : ℕ) → keptIn s c ≡ min maxTraffic m
     → (es : List Event) → keptIn (after s es) c ≡ min maxTraffic (sumFrom c m (history s es))
-unfolding after history sumFrom
+unfolding systemAfter historyBy sumFrom
 run-keeps c s h w m k [] = k
 run-keeps c s h w m k (e ∷ es) =
     run-keeps c (applyOf s e .system) (apply-shaped s e h) (apply-keeps s e h w) (grown c m (entryOf s e)) (entry-keeps s h w m c e k) es

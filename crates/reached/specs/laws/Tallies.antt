@@ -30,8 +30,9 @@ use Rattle.effects.specs.Facts.{Shaped}
 use Rattle.effects.specs.Facts.{WellFormed}
 use Rattle.effects.specs.WellFormedLaws.{formed-well}
 use Rattle.effects.specs.Applied.{apply-well, apply-shaped, apply-keeps}
+use Rattle.effects.specs.Run.{Entry, entryWith, systemAfter, historyBy}
 use Rattle.reached.specs.Reached.{after}
-use Rattle.reached.specs.History.{Entry, entryOf, history, Numbered, tookRelease, servedRelease, skippedRelease, select, takenIn, servedIn}
+use Rattle.reached.specs.History.{entryOf, history, Numbered, tookRelease, servedRelease, skippedRelease, select, takenIn, servedIn}
 use Rattle.reached.specs.History.{skippedIn, numbersOf, lastOr, countUp}
 
 -- ---- one entry: what it tells of gang g, whose ledger was l before it and is m after it
@@ -58,7 +59,7 @@ tallied-job (was-other t v p w) q = absurd (clash q v)
 module _ (s : System) (h : Shaped s) (w : WellFormed s) where
   -- the reply r to e tells of gang g
   abbrev Tells : ℕ → Event → Reply → Type 0
-  Tells g e r = Tallied g (s .ledger) (r .system .ledger) (record { event = e; answer = r .answer })
+  Tells g e r = Tallied g (s .ledger) (r .system .ledger) (entryWith e r)
 
   same : (g : ℕ) → SameAt (s .ledger) (s .ledger) g
   same g = record { same-number = refl; same-served = refl; same-skipped = refl; same-job = refl }
@@ -141,7 +142,7 @@ more g l k m x h (was-other t v p w) y = record {
 }
 
 pub tally : (g : ℕ) (s : System) → Shaped s → WellFormed s → (es : List Event) → Tally g (s .ledger) (after s es .ledger) (history s es)
-unfolding after history select numbersOf lastOr countUp
+unfolding systemAfter historyBy select numbersOf lastOr countUp
 tally g s h w [] = record { number = omega arith; served = omega arith; skipped = omega arith; job = refl; adds-up = refl; in-order = refl }
 tally g s h w (e ∷ es) =
     more g (s .ledger) (applyOf s e .system .ledger) (after (applyOf s e .system) es .ledger)
