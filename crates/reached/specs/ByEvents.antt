@@ -35,3 +35,7 @@ module _ (P : System → Type 0) (keeps : (s : System) → Reached s → (e : Ev
   pub by-events : ((b : Table) → Accepted b → P (freshSystem b)) → {s : System} → Reached s → P s
   by-events fresh R =
       subst P (R .reaches) (kept-after (freshSystem (R .table)) (R .events) (fresh-reached (R .table) (R .accepted)) (fresh (R .table) (R .accepted)))
+
+-- by any events from a reached state
+pub after-reached : {s : System} → Reached s → (es : List Event) → Reached (after s es)
+after-reached {s} R es = kept-after Reached (λ r Q e p. event-reached p e) s es R R

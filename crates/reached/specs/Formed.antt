@@ -15,19 +15,23 @@ use Rattle.system.specs.declared.events.Reply.{Reply}
 use Rattle.system.specs.System.{freshSystem}
 use Rattle.system.specs.Events.{stepOf, applyOf}
 use Rattle.system.specs.WellFormed.{wellFormed}
-use Rattle.effects.specs.Facts.{WellFormed}
+use Rattle.effects.specs.Facts.{Shaped, WellFormed}
 use Rattle.effects.specs.WellFormedLaws.{formed-well}
 use Rattle.effects.specs.Leaves.{table-same}
 use Rattle.effects.specs.Applied.{apply-well}
 use Rattle.reached.specs.Reached.{Accepted, Reached}
 use Rattle.reached.specs.ByEvents.{fresh-reached, kept-after}
-use Rattle.reached.specs.laws.Runs.{run-formed}
+use Rattle.reached.specs.laws.Runs.{run-shaped, run-formed}
 
 -- ---- well formed
 
 -- "Well formed", as facts
 pub reached-formed : {s : System} → Reached s → WellFormed s
 reached-formed R = subst WellFormed (R .reaches) (run-formed (R .table) (R .accepted) (R .events))
+
+-- with as many places in its lists as the types say
+pub reached-shaped : {s : System} → Reached s → Shaped s
+reached-shaped R = subst Shaped (R .reaches) (run-shaped (R .table) (R .accepted) (R .events))
 
 -- and as the test
 pub reached-well : {s : System} → Reached s → wellFormed s ≡ true

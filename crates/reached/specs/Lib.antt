@@ -1,5 +1,6 @@
 pub mod Reached
 pub mod History
+pub mod ByAnswers
 pub mod ByEvents
 pub mod Read
 pub mod Formed
@@ -14,4 +15,5 @@ pub mod Services
 pub mod Demand3
 pub mod AtRest
 pub mod NeverNone
+pub mod FromBytes
 pub mod laws
