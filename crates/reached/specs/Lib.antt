@@ -5,6 +5,7 @@ pub mod ByEvents
 pub mod Read
 pub mod Formed
 pub mod Releases
+pub mod ServedExactly
 pub mod TrueSum
 pub mod Allowed
 pub mod First

@@ -25,6 +25,10 @@ pub make-implies : (x y : Bool) → (x ≡ true → y ≡ true) → implies x y 
 make-implies true y h = h refl
 make-implies false y h = refl
 
+pub unimplied : (x y : Bool) → implies x y ≡ false → (x ≡ true) × (y ≡ false)
+unimplied true y h = (refl, h)
+unimplied false y h = absurd (clash refl h)
+
 -- what holds of both ends of a test holds of its result
 pub either : {A : Type 0} (P : A → Type 0) (x : Bool) {a b : A} → (x ≡ true → P a) → (x ≡ false → P b) → P (cond x a b)
 either P true p q = p refl

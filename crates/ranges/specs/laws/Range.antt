@@ -1,6 +1,6 @@
 -- What a test of every, or of some, number below n says of each number.
 use Prim.Native.Nat.{ℕ, zero, suc, _+_, _<_}
-use mathlib.Core.Bool.{Bool, true, false, _&&_, _||_, or-true}
+use mathlib.Core.Bool.{Bool, true, false, not, _&&_, _||_, or-true}
 use mathlib.Core.Path.{_≡_, refl, sym, ap, _∙_}
 use native.Mathlib.Numerals.{add-one}
 use native.Mathlib.Omega.{arith}
@@ -28,6 +28,16 @@ make-every (suc n) p h = rw (make-every n p (λ i l. h i (omega arith)), h n (om
 -- one number that fails is enough
 pub not-every : (n : ℕ) (p : ℕ → Bool) (i : ℕ) → i < n → p i ≡ false → every n p ≡ false
 not-every n p i l e = is-false (every n p) (λ h. clash (every-true n p h i l) e)
+
+-- where it does not hold of every number, there is one that fails
+pub every-fails : (n : ℕ) (p : ℕ → Bool) → every n p ≡ false → FoundBelow n (λ i. not (p i))
+unfolding every
+every-fails zero p e = absurd (clash refl e)
+every-fails (suc n) p e = go (every n p) e (every-fails n p)
+  where
+    go : (x : Bool) → (x && p n) ≡ false → (x ≡ false → FoundBelow n (λ i. not (p i))) → FoundBelow (suc n) (λ i. not (p i))
+    go true q f = record { at = n; below = omega arith; holds = ap not q }
+    go false q f = let k = f refl in record { at = k .at; below = let l : k .at < n = k .below in omega arith; holds = k .holds }
 
 -- one number more
 pub every-more : (n : ℕ) (p : ℕ → Bool) → every (n + 1) p ≡ (every n p && p n)

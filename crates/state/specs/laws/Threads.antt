@@ -1,6 +1,6 @@
--- What a RELEASE makes of the threads, exactly: "all become ready"; and when a thread is running.
+-- What a RELEASE makes of the threads, exactly: "all become ready"; when all of a gang's threads are finished, and when a thread is running.
 use Prim.Native.Nat.{ℕ, zero, suc, _<_, _≤_}
-use mathlib.Core.Bool.{true, cond}
+use mathlib.Core.Bool.{true, false, cond}
 use mathlib.Core.Path.{_≡_, refl, sym, ap, _∙_}
 use mathlib.Core.List.{List}
 use mathlib.Core.Logic.{_⊎_, inl, inr}
@@ -9,11 +9,13 @@ use lib.ListN.{length, getD, set, length-set, List·getD-eq-default}
 use lib.Seq.{getD-set-same, getD-set-other}
 use native.Mathlib.Decide.{ℕ-discrete, decLt}
 use native.Mathlib.Omega.{arith}
-use borrow.Author.Tests.{eq-eqb, eqb-true}
-use Rattle.table.specs.Numbers.{ready}
+use borrow.Author.Tests.{eq-eqb, eqb-true, eqb-false, not-true}
+use Rattle.table.specs.Numbers.{finished, ready}
 use Rattle.table.specs.Order.{gangOf, coreOf}
-use Rattle.ranges.specs.laws.Logic.{both, either}
-use Rattle.state.specs.Threads.{isRunning, readied}
+use Rattle.ranges.specs.laws.Logic.{both, either, is-false, implied, make-implies, unimplied}
+use Rattle.ranges.specs.laws.Range.{every-true, make-every, every-fails}
+use Rattle.state.specs.HasThread.{HasUnfinished}
+use Rattle.state.specs.Threads.{isRunning, finishedIn, allFinished, readied}
 
 -- ---- "all become ready": gang g's threads, of the first n
 
@@ -76,6 +78,41 @@ module _ (gang : List ℕ) (g : ℕ) where
       go (yes l) (no i) (yes e) =
           let k : length r ≡ length state = readied-length n state in
           inr (List·getD-eq-default r 0 (omega arith) ∙ sym (List·getD-eq-default state 0 (omega arith)))
+
+-- ---- "all its threads are finished": gang g's, of the first n
+
+module _ (state gang : List ℕ) (g n : ℕ) where
+  pub all-finished : allFinished state gang g n ≡ true → (t : ℕ) → t < n → gangOf gang t ≡ g → getD state t 0 ≡ finished
+  unfolding allFinished finishedIn
+  all-finished e t l q =
+      eqb-true (getD state t 0) finished
+      (implied (eqb (gangOf gang t) g) (eqb (getD state t 0) finished) (every-true n (finishedIn state gang g) e t l) (eq-eqb (gangOf gang t) g q))
+
+  pub make-finished : ((t : ℕ) → t < n → gangOf gang t ≡ g → getD state t 0 ≡ finished) → allFinished state gang g n ≡ true
+  unfolding allFinished finishedIn
+  make-finished h =
+      make-every n (finishedIn state gang g)
+      (λ t l.
+      make-implies (eqb (gangOf gang t) g) (eqb (getD state t 0) finished)
+      (λ q. eq-eqb (getD state t 0) finished (h t l (eqb-true (gangOf gang t) g q))))
+
+  -- one that is not, and then not all are
+  pub some-unfinished : allFinished state gang g n ≡ false → HasUnfinished state gang g n
+  unfolding allFinished finishedIn
+  some-unfinished e =
+      let k = every-fails n (finishedIn state gang g) e in
+      let x = eqb (gangOf gang (k .at)) g in
+      let y = eqb (getD state (k .at) 0) finished in
+      let f = not-true (finishedIn state gang g (k .at)) (k .holds) in
+      record {
+        thread = k .at;
+        below = k .below;
+        its-gang = eqb-true (gangOf gang (k .at)) g (unimplied x y f .0);
+        unfinished = eqb-false (getD state (k .at) 0) finished (unimplied x y f .1);
+      }
+
+  pub make-unfinished : HasUnfinished state gang g n → allFinished state gang g n ≡ false
+  make-unfinished u = is-false (allFinished state gang g n) (λ e. u .unfinished (all-finished e (u .thread) (u .below) (u .its-gang)))
 
 -- ---- "A thread is running when it is its core's occupant and is ready"
 
