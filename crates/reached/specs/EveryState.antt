@@ -2,14 +2,14 @@
 -- an occupant that isn't locked owes.
 -- "Two gangs can therefore overlap only on owing cores."
 use Prim.Native.Nat.{ℕ, _<_}
-use mathlib.Core.Bool.{Bool, true, false}
-use mathlib.Core.Path.{_≡_, refl, sym, ap, _∙_}
-use mathlib.Core.Logic.{_⊎_, inl, inr, ⊎-elim, _↔_}
-use native.Mathlib.Decide.{decLt}
+use mathlib.Core.Bool.{true}
+use mathlib.Core.Path.{_≡_, sym, ap, _∙_}
+use mathlib.Core.Logic.{_⊎_, inl, inr, _↔_}
+use native.Mathlib.Decide.{decLt, ℕ-discrete}
 use native.Mathlib.Omega.{arith}
 use Rattle.coreset.specs.Set.{has}
 use Rattle.lock.specs.laws.Good.{occupied-owes}
-use Rattle.ranges.specs.laws.Logic.{clash, is-false}
+use Rattle.ranges.specs.laws.Logic.{is-false}
 use Rattle.table.specs.Numbers.{ready}
 use Rattle.state.specs.laws.Threads.{running-is}
 use Rattle.system.specs.declared.System.{System}
@@ -18,7 +18,7 @@ use Rattle.effects.specs.Standing.{Locked, held-exactly, locked-occupied, locke
 use Rattle.reached.specs.Reached.{Reached}
 use Rattle.reached.specs.Formed.{reached-formed, reached-accepted, reached-threads}
 use Rattle.reached.specs.First.{ReadyThread}
-use Rattle.reached.specs.WorldOf.{worldOf}
+use Rattle.reached.specs.WorldOf.{worldOf, gang-not-none}
 use Rattle.reached.specs.GoodReached.{reached-good}
 
 -- core d owes
@@ -67,15 +67,22 @@ module _ {s : System} (R : Reached s) where
       let m = reached-threads R in
       omega arith
 
-  -- a thread that is running on a core that does not owe is the holder's
-  running-holders : (t : ℕ) → Runs s t → Owes s (coreIn s t) ⊎ (gangIn s t ≡ s .lock .holder)
-  running-holders t r = go (has (s .lock .locked) (coreIn s t)) refl
-    where
-      go : (x : Bool) → has (s .lock .locked) (coreIn s t) ≡ x → Owes s (coreIn s t) ⊎ (gangIn s t ≡ s .lock .holder)
-      go true l = inr (ap (gangIn s) (sym (running-occupant t r)) ∙ locked-occupant (coreIn s t) l .1)
-      go false n = inl (unlocked-owes (coreIn s t) (running-occupies t r) (λ l. clash l n))
+  -- "Two gangs can therefore overlap only on owing cores": any occupant that is not the holder's is on an owing core,
+  pub foreign-owes : (d : ℕ) → Occupied s d → (gangIn s (occupantIn s d) ≡ s .lock .holder → ⊥) → Owes s d
+  foreign-owes d o ne = unlocked-owes d o (λ l. ne (locked-occupant d l .1))
 
-  -- "Two gangs can therefore overlap only on owing cores": of two running threads of different gangs one is on an owing core
+  -- and where the lock is free, any occupant at all is
+  pub free-owes : s .lock .holder ≡ 255 → (d : ℕ) → Occupied s d → Owes s d
+  free-owes free d o = foreign-owes d o (λ e. gang-not-none (s .table) (reached-accepted R) (occupantIn s d) (e ∙ free))
+
+  -- so a running thread that is not the holder's is on an owing core,
+  running-owes : (t : ℕ) → Runs s t → (gangIn s t ≡ s .lock .holder → ⊥) → Owes s (coreIn s t)
+  running-owes t r ne = foreign-owes (coreIn s t) (running-occupies t r) (λ e. ne (ap (gangIn s) (sym (running-occupant t r)) ∙ e))
+
+  -- and of two running threads of different gangs one is on an owing core
   pub overlap-owes : (t u : ℕ) → Runs s t → Runs s u → (gangIn s t ≡ gangIn s u → ⊥) → Owes s (coreIn s t) ⊎ Owes s (coreIn s u)
-  overlap-owes t u p q ne =
-      ⊎-elim inl (λ e. ⊎-elim inr (λ f. absurd (ne (e ∙ sym f))) (running-holders u q)) (running-holders t p)
+  overlap-owes t u p q ne = go (ℕ-discrete (gangIn s t) (s .lock .holder))
+    where
+      go : Dec (gangIn s t ≡ s .lock .holder) → Owes s (coreIn s t) ⊎ Owes s (coreIn s u)
+      go (yes e) = inr (running-owes u q (λ f. ne (e ∙ sym f)))
+      go (no n) = inl (running-owes t p n)
