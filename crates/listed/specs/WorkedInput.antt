@@ -1,22 +1,9 @@
 -- The inputs of the worked table, record by record.
-use Prim.Native.Nat.{ℕ, _+_}
+use Prim.Native.Nat.{ℕ}
 use mathlib.Core.List.{List, [], _∷_, _++_}
-use lib.ListN.{length}
-use Rattle.wire.specs.Kinds.{kindCores, kindGang, kindThread, kindRelease, kindFinish, kindWake, kindServe, kindTraffic}
-use Rattle.wire.specs.Number.{two, four}
-
--- "A record is a length (u16), a kind (u16), then a payload"; the "length counts kind and payload"
-abbrev recordBytes : ℕ → List ℕ → List ℕ
-recordBytes kind payload = two (2 + length payload) (two kind payload)
-
-abbrev cores : ℕ → List ℕ
-cores n = recordBytes kindCores (n ∷ [])
-
-abbrev gang : ℕ → ℕ → List ℕ
-gang priority budget = recordBytes kindGang (priority ∷ four budget [])
-
-abbrev thread : ℕ → ℕ → List ℕ
-thread g c = recordBytes kindThread (g ∷ c ∷ [])
+use Rattle.wire.specs.Kinds.{kindRelease, kindFinish, kindWake, kindServe, kindTraffic}
+use Rattle.wire.specs.Number.{four}
+use Rattle.reading.specs.WorkedTable.{recordBytes, coresBytes, gangBytes, threadBytes, workedTable}
 
 abbrev release : ℕ → List ℕ
 release g = recordBytes kindRelease (g ∷ [])
@@ -36,9 +23,7 @@ traffic c n = recordBytes kindTraffic (c ∷ four n [])
 -- document 01, "Input: CORES 3; GANG 10, 100; .. WAKE 1"
 abbrev pub document01 : List ℕ
 document01 =
-    cores 3
-    ++ gang 10 100 ++ gang 20 0
-    ++ thread 0 0 ++ thread 0 1 ++ thread 1 2
+    workedTable
     ++ release 0 ++ serve 0 ++ traffic 2 100 ++ release 1 ++ serve 2 ++ serve 1 ++ release 0
     ++ finish 0 ++ serve 0 ++ finish 2 ++ serve 2 ++ serve 1 ++ wake 1
 
@@ -46,9 +31,9 @@ document01 =
 -- threads of priority 10 and 20"
 abbrev allOwe : List ℕ
 allOwe =
-    cores 3
-    ++ gang 30 0 ++ gang 10 0 ++ gang 20 0
-    ++ thread 0 0 ++ thread 1 1 ++ thread 2 2
+    coresBytes 3
+    ++ gangBytes 30 0 ++ gangBytes 10 0 ++ gangBytes 20 0
+    ++ threadBytes 0 0 ++ threadBytes 1 1 ++ threadBytes 2 2
     ++ release 0 ++ serve 0 ++ finish 0 ++ release 1 ++ release 2
 
 -- "Order 1, 0, 1, 2, 1"

@@ -17,4 +17,5 @@ pub mod Demand3
 pub mod AtRest
 pub mod NeverNone
 pub mod FromBytes
+pub mod WorkedReached
 pub mod laws

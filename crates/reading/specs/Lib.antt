@@ -7,4 +7,5 @@ pub mod Column
 pub mod Building
 pub mod Sound
 pub mod SystemRead
+pub mod WorkedTable
 pub mod laws
