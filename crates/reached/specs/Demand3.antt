@@ -18,7 +18,7 @@ use Rattle.reached.specs.Reached.{Reached}
 use Rattle.reached.specs.Formed.{reached-accepted}
 use Rattle.reached.specs.WorldOf.{worldOf}
 use Rattle.reached.specs.GoodReached.{reached-good}
-use Rattle.reached.specs.Services.{Serves, done, then, serveIn, serves-on, serves-reached, runs-in}
+use Rattle.reached.specs.Services.{ServeRule, ServesBy, Serves, done, then, serveIn, serves-on, serves-reached, runs-in}
 
 -- no core owes
 abbrev pub NoneOwes : System → Type 0
@@ -46,7 +46,7 @@ module _ {s : System} (R : Reached s) where
 
 -- ---- it comes to where none owes
 
--- in whatever order the cores have been served, none owes, or one that does can be served next (Services, `owing-served`)
+-- in whatever order the cores have been served, none owes, or one that does can be served next
 pub rests-or-goes-on : {s t : System} {cs : List ℕ} → Serves s cs t → NoneOwes t ⊎ ((c : ℕ) × Serves s (cs ++ (c ∷ [])) (serveIn t c))
 rests-or-goes-on {s} {t} {cs} v = go (ℕ-discrete (t .lock .owing) 0)
   where
@@ -54,15 +54,16 @@ rests-or-goes-on {s} {t} {cs} v = go (ℕ-discrete (t .lock .owing) 0)
     go (yes e) = inl e
     go (no ne) = let w = some-core (t .lock .owing) ne in inr (w .0, serves-on v (then (w .1) done))
 
--- services of owing cores up to where none owes
-pub record Rest (s : System) : Type 0 where
+-- services of owing cores by a rule up to where none owes
+pub record Rest (rule : ServeRule) (s : System) : Type 0 where
   pub services : List ℕ
   pub system : System
-  pub serves : Serves s services system
+  pub serves : ServesBy rule s services system
   pub none-owes : NoneOwes system
 
 -- n services more are enough where n and those before pass the bound
-rest-within : {s : System} (R : Reached s) (n : ℕ) {t : System} (cs : List ℕ) → Serves s cs t → 3 * s .table .sizes .cores < length cs + n → Rest s
+rest-within : {s : System} (R : Reached s) (n : ℕ) {t : System} (cs : List ℕ) → Serves s cs t → 3 * s .table .sizes .cores < length cs + n
+    → Rest serveIn s
 rest-within R zero cs v h = let b = serving-ends R v in absurd (omega arith)
 rest-within {s} R (suc n) {t} cs v h =
     ⊎-elim (λ e. record { services = cs; system = t; serves = v; none-owes = e })
@@ -70,9 +71,9 @@ rest-within {s} R (suc n) {t} cs v h =
     rest-within R n (cs ++ (w .0 ∷ [])) (w .1) (let e = length-append cs (w .0 ∷ []) in omega arith))
     (rests-or-goes-on v)
 
-pub rest-exists : {s : System} → Reached s → Rest s
+pub rest-exists : {s : System} → Reached s → Rest serveIn s
 rest-exists {s} R = rest-within R (suc (3 * s .table .sizes .cores)) [] done (omega arith)
 
 -- which is a reached state, so that AtRest says what it is
-pub rest-reached : {s : System} → Reached s → (q : Rest s) → Reached (q .system)
+pub rest-reached : {s : System} → Reached s → (q : Rest serveIn s) → Reached (q .system)
 rest-reached R q = serves-reached (q .serves) R

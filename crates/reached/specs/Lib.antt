@@ -15,6 +15,8 @@ pub mod EveryState
 pub mod Services
 pub mod Demand3
 pub mod AtRest
+pub mod AnyServe
+pub mod WrongServe
 pub mod NeverNone
 pub mod FromBytes
 pub mod WorkedReached

@@ -26,10 +26,18 @@ use Rattle.reached.specs.EveryState.{Owes}
 abbrev pub serveIn : System → ℕ → System
 serveIn s c = applyOf s (Serve c) .system
 
--- from s, the cores of the list are served one after the other, each of them owing then, up to r
-pub data Serves : System → List ℕ → System → Type 0 where
-  done : {s : System} → Serves s [] s
-  then : {s r : System} {c : ℕ} {cs : List ℕ} → Owes s c → Serves (serveIn s c) cs r → Serves s (c ∷ cs) r
+-- a rule for SERVE: what it makes of a system and a core
+abbrev pub ServeRule : Type 0
+ServeRule = System → ℕ → System
+
+-- from s, the cores of the list are served one after the other by a rule, each of them owing then, up to r
+pub data ServesBy (rule : ServeRule) : System → List ℕ → System → Type 0 where
+  done : {s : System} → ServesBy rule s [] s
+  then : {s r : System} {c : ℕ} {cs : List ℕ} → Owes s c → ServesBy rule (rule s c) cs r → ServesBy rule s (c ∷ cs) r
+
+-- the same by SERVE itself
+abbrev pub Serves : System → List ℕ → System → Type 0
+Serves = ServesBy serveIn
 
 -- services are events: they lead from a reached state to a reached state
 pub serves-reached : {s r : System} {cs : List ℕ} → Serves s cs r → Reached s → Reached r
@@ -37,7 +45,7 @@ serves-reached done R = R
 serves-reached (then o v) R = serves-reached v (event-reached R (Serve _))
 
 -- some services, and then some more
-pub serves-on : {s r q : System} {cs ds : List ℕ} → Serves s cs r → Serves r ds q → Serves s (cs ++ ds) q
+pub serves-on : {rule : ServeRule} {s r q : System} {cs ds : List ℕ} → ServesBy rule s cs r → ServesBy rule r ds q → ServesBy rule s (cs ++ ds) q
 serves-on done w = w
 serves-on (then o v) w = then o (serves-on v w)
 
