@@ -8,4 +8,6 @@ pub mod Building
 pub mod Sound
 pub mod SystemRead
 pub mod WorkedTable
+pub mod Rows
+pub mod Exactly
 pub mod laws

@@ -6,3 +6,7 @@ pub mod TableTurn
 pub mod Building
 pub mod Column
 pub mod Ending
+pub mod Fits
+pub mod Rows
+pub mod Verdict
+pub mod Ends

@@ -1,17 +1,15 @@
 -- Laws of `Building`.
-use Prim.Native.Nat.{ℕ, _<_, _≤_}
+use Prim.Native.Nat.{_≤_}
 use mathlib.Core.Bool.{true}
 use mathlib.Core.Path.{_≡_}
 use native.Mathlib.Omega.{arith}
-use Rattle.ranges.specs.laws.Range.{every-true}
 use Rattle.table.specs.declared.Table.{Table}
 use Rattle.table.specs.Numbers.{maxGangs, maxThreads}
-use Rattle.table.specs.Occurs.{occurs, Place}
-use Rattle.table.specs.laws.Occurs.{occurs-found}
 use Rattle.table.specs.TableOk.{filled}
-use Rattle.table.specs.Rules.{emptyTable, manned, mannedHold, tableOk}
+use Rattle.table.specs.Rules.{emptyTable, mannedHold, tableOk}
 use Rattle.table.specs.TableOk.{TableOk}
 use Rattle.table.specs.laws.Ok.{ok-table}
+use Rattle.table.specs.laws.Parts.{manned-ok}
 use Rattle.reading.specs.laws.Column.{column-empty}
 use Rattle.reading.specs.Building.{Below, Budget, Building, Priority}
 
@@ -30,10 +28,6 @@ building-empty = record {
 
 -- a table that may end is well formed
 module _ (b : Table) (k : Building b) (cores : 1 ≤ b .sizes .cores) (gangs : 1 ≤ b .sizes .gangs) (all : mannedHold b ≡ true) where
-  gang-manned : (g : ℕ) → g < b .sizes .gangs → Place (b .gang) (b .sizes .threads) g
-  unfolding manned
-  gang-manned g l = occurs-found (b .gang) (b .sizes .threads) g (every-true (b .sizes .gangs) (occurs (b .gang) (b .sizes .threads)) all g l)
-
   facts : TableOk b
   facts = record {
     sizes = filled cores (k .cores-room) gangs (k .gangs-room) (k .threads-room);
@@ -47,7 +41,7 @@ module _ (b : Table) (k : Building b) (cores : 1 ≤ b .sizes .cores) (gangs : 1
     gang-zero = k .gang-column .unused;
     core-zero = k .core-column .unused;
     distinct = k .distinct;
-    manned = gang-manned;
+    manned = manned-ok (b .gang) (b .sizes .gangs) (b .sizes .threads) all;
   }
 
   pub building-done : tableOk b ≡ true

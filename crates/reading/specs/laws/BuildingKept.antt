@@ -4,38 +4,23 @@ use mathlib.Core.Bool.{Bool, true, false, cond}
 use mathlib.Core.Path.{_≡_, refl, sym, _∙_}
 use native.Mathlib.Decide.{ℕ-discrete}
 use native.Mathlib.Omega.{arith}
-use lib.Dec.{eqb, ltb, leb}
+use lib.Dec.{eqb, leb}
 use lib.ListN.{length, set}
 use lib.Seq.{getD-set-same, getD-set-other}
-use borrow.Author.Tests.{eqb-true, ltb-true, leb-true, leb-false}
+use borrow.Author.Tests.{eqb-true, leb-false}
 use Rattle.table.specs.declared.Table.{Table}
-use Rattle.table.specs.Numbers.{maxCores, maxGangs, maxThreads, topPriority, maxBudget}
+use Rattle.table.specs.Numbers.{maxCores, maxGangs, maxThreads}
 use Rattle.table.specs.Order.{priorityOf}
 use Rattle.table.specs.Occurs.{occurs}
 use Rattle.table.specs.laws.Occurs.{not-occurs}
-use Rattle.ranges.specs.laws.Logic.{both}
-use Rattle.table.specs.Rules.{within}
 use Rattle.wire.specs.declared.refusal.Refusal.the-variants.{NotCoresFirst, TooMany, OutOfRange, PriorityTaken}
 use Rattle.wire.specs.declared.table_record.TableRecord.{TableRecord}
 use Rattle.wire.specs.declared.table_record.TableRecord.the-variants as put
 use Rattle.reading.specs.laws.Column.{column-more, column-weaker}
+use Rattle.reading.specs.laws.Fits.{in-range, gang-fits, thread-fits}
 use Rattle.reading.specs.Building.{Priority, Budget, Below, Building}
 use Rattle.reading.specs.Taken.{recordRefused, recordAccepted, withCores, withGang, withThread, countFits, gangFits, threadFits, coresTaken}
 use Rattle.reading.specs.Taken.{gangTaken, threadTaken, recordTaken}
-
--- ---- what the tests of 6 say
-
-in-range : (x high : ℕ) → within 1 x high ≡ true → (1 ≤ x) × (x ≤ high)
-unfolding within
-in-range x high e = let w = both (leb 1 x) (leb x high) e in (leb-true 1 x (w .0), leb-true x high (w .1))
-
-gang-fits : (p m : ℕ) → gangFits p m ≡ true → Priority p × Budget m
-unfolding gangFits
-gang-fits p m e = let w = both (within 1 p topPriority) (leb m maxBudget) e in (in-range p topPriority (w .0), leb-true m maxBudget (w .1))
-
-thread-fits : (g gangs c cores : ℕ) → threadFits g gangs c cores ≡ true → Below gangs g × Below cores c
-unfolding threadFits
-thread-fits g gangs c cores e = let w = both (ltb g gangs) (ltb c cores) e in (ltb-true g gangs (w .0), ltb-true c cores (w .1))
 
 -- ---- the table with one record more
 
