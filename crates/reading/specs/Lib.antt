@@ -10,4 +10,6 @@ pub mod SystemRead
 pub mod WorkedTable
 pub mod Rows
 pub mod Exactly
+pub mod Walk
+pub mod TableExactly
 pub mod laws

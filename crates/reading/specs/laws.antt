@@ -10,3 +10,5 @@ pub mod Fits
 pub mod Rows
 pub mod Verdict
 pub mod Ends
+pub mod Sofar
+pub mod Walk

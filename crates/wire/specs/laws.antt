@@ -1,3 +1,4 @@
 pub mod Reader
 pub mod Readers
 pub mod Refusal
+pub mod Part

@@ -5,13 +5,14 @@ use mathlib.Core.Path.{_≡_, refl, sym, _∙_}
 use native.Mathlib.Omega.{arith}
 use borrow.Author.Needs.{needs}
 use denote.Ref.{now}
-use lib.ListN.{length, take, drop}
+use lib.ListN.{length, drop}
 use Rattle.wire.specs.Question.{WholeRecord}
 use Rattle.table.specs.declared.Table.{Table}
 use Rattle.table.specs.Rules.{tableOf}
 use Rattle.reading.specs.Parts.{takenWith}
 use Rattle.reading.specs.Turn.{TableTurn, tableTurn}
-use Rattle.reading.proofs.Sofar.{Sofar, start, ends, turn, read, unread, stops, takes, goes}
+use Rattle.reading.specs.laws.Sofar.{Sofar, start, ends, turn, read, unread, stops, takes, goes}
+use Rattle.reading.proofs.Sofar.{whole-rest}
 use Rattle.reading.proofs.read_with.Statement.{statement}
 use Rattle.reading.proofs.read_with.Tie as tie
 
@@ -70,8 +71,11 @@ module _ (c : tie.After-take Inv-loop μ-loop) where
       turn (c .before .before .before .before .before .before .«record» .given .0 .1 .0)
       (takenWith (c .take .result) (c .take .last .1 .1 .0) (c .take .last .1 .1 .1 .0) (c .take .last .1 .1 .1 .1 .0) (c .take .last .1 .1 .1 .1 .1 .0))
 
-  turned : its ≡ tableTurn (loop .before .before .args .default) (so-far loop) (take (length bytes - loop .loop .at) (drop (loop .loop .at) bytes))
-  turned = read _ _ _ _ _ _ (sym (asked .next-table-record .ensures) ∙ c .before .before .before .before .before .before .«record» .given .1) (c .take .ensures)
+  turned : its ≡ tableTurn (loop .before .before .args .default) (so-far loop) (drop (loop .loop .at) bytes)
+  turned =
+      whole-rest _ bytes (so-far loop) (loop .loop .at)
+      (read _ _ _ _ _ _ (sym (asked .next-table-record .ensures) ∙ c .before .before .before .before .before .before .«record» .given .1)
+      (c .take .ensures))
 
 returns : tie.Need-returns Inv-loop μ-loop
 returns c =
@@ -114,7 +118,8 @@ returns-2 c =
     let w = k .before .before .before in
     let l = w .loop in
     let found = sym (k .next-table-record .ensures) ∙ c .before .before .refusal .given .1 in
-    c .refused-at2 .ensures ∙ stops _ _ (so-far w) (l .at) (l .inv) (k .before .before .loop-test .taken) _ (unread _ _ _ _ found) _ refl
+    c .refused-at2 .ensures ∙ stops _ _ (so-far w) (l .at) (l .inv) (k .before .before .loop-test .taken) _
+    (whole-rest _ _ (so-far w) (l .at) (unread _ _ _ _ found)) _ refl
 
 ended-requires : tie.Need-ended-requires Inv-loop μ-loop
 ended-requires c κs = tt

@@ -14,6 +14,7 @@ use Rattle.table.specs.Occurs.{occurs}
 use Rattle.table.specs.Rules.{manned, mannedHold}
 use Rattle.table.specs.laws.Occurs.{not-occurs, make-not-occurs}
 use Rattle.table.specs.laws.Parts.{manned-ok, ok-manned}
+use Rattle.wire.specs.Refusal.{numberOf}
 use Rattle.wire.specs.declared.refusal.Refusal.{Refusal}
 use Rattle.wire.specs.declared.refusal.Refusal.the-variants.{Unfinished}
 use Rattle.reading.specs.declared.rules.Verdict.the-variants.{Accepted, Refused}
@@ -97,3 +98,8 @@ module _ (b : Table) where
       let c = w .has-cores in
       let g = w .has-gang in
       ends-whole b (λ e. omega arith) (λ e. omega arith) (ok-manned (b .gang) (b .sizes .gangs) (b .sizes .threads) (w .all-manned))
+
+  pub end-number : {r : Refusal} → RefusesEnd b r → numberOf r ≡ 8
+  end-number (ends-without-cores e) = refl
+  end-number (ends-without-gang e) = refl
+  end-number (ends-without-thread g l none) = refl

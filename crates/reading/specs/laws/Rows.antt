@@ -11,6 +11,7 @@ use Rattle.table.specs.declared.Table.{Table}
 use Rattle.table.specs.Numbers.{maxCores, maxGangs, maxThreads, topPriority, maxBudget}
 use Rattle.table.specs.Occurs.{occurs}
 use Rattle.table.specs.laws.Occurs.{occurs-found, make-occurs, not-occurs, make-not-occurs}
+use Rattle.wire.specs.Refusal.{numberOf}
 use Rattle.wire.specs.declared.refusal.Refusal.{Refusal}
 use Rattle.wire.specs.declared.refusal.Refusal.the-variants.{OutOfRange}
 use Rattle.wire.specs.declared.table_record.TableRecord.{TableRecord}
@@ -132,3 +133,25 @@ module _ (d : ℕ) (b : Table) where
   record-accepts (takes-short w) = record-accepts w
   record-accepts (takes-thread {g = g} {c = c} l k f h) =
       law.thread-in b g c (not-none l) k (make-thread g (b .sizes .gangs) c (b .sizes .cores) f h)
+
+  -- ---- the numbers that the rules give, and what an accepted record leaves
+
+  pub rules-number : {one : TableRecord} {r : Refusal} → RefusesRecord d b one r → 4 ≤ numberOf r
+  rules-number (second-cores l) = omega arith
+  rules-number (gang-too-soon e) = omega arith
+  rules-number (thread-too-soon e) = omega arith
+  rules-number (gang-too-many l k) = omega arith
+  rules-number (thread-too-many l k) = omega arith
+  rules-number (bad-count e o) = omega arith
+  rules-number (bad-priority l k o) = omega arith
+  rules-number (bad-budget l k o) = omega arith
+  rules-number (gang-unread l k o) = omega arith
+  rules-number (core-absent l k o) = omega arith
+  rules-number (taken-already l k f h t) = omega arith
+  rules-number (short-refused w) = rules-number w
+
+  pub cores-then : {one : TableRecord} {more : Table} → AcceptsRecord d b one more → SomeCores more
+  cores-then (takes-cores e l m) = l
+  cores-then (takes-gang l k f h t) = l
+  cores-then (takes-short w) = cores-then w
+  cores-then (takes-thread l k f h) = l
