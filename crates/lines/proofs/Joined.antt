@@ -1,16 +1,20 @@
 -- The fields of a line, each put where the one before it ends, are the line:
--- an event's takes 58 of its 64 bytes with all the places, a thread's all of its 80.
+-- of the 80 bytes that it is lent an event's takes 58 with all the places, a message 79, a thread's all.
 use Prim.Native.Nat.{ℕ, _+_, _≤_, _<_}
-use mathlib.Core.Path.{_≡_, sym, _∙_}
-use mathlib.Core.List.{List, [], _∷_, _++_}
+use mathlib.Core.Path.{_≡_, sym, subst, _∙_}
+use mathlib.Core.Bool.{true}
+use mathlib.Core.List.{List, [], _∷_, _++_, append-assoc}
 use lib.ListN.{length, set, take}
 use lib.Seq.{length-take-le}
 use native.Mathlib.Omega.{arith}
 use native.Mathlib.Nat.{zero-add}
-use Rattle.lines.specs.Chars.{lineFeed, places8, places16, places32, hexPlaces, room, mostWords, threadRoom}
+use Rattle.lines.specs.Chars.{lineFeed, ten, places8, places16, places32, hexPlaces, room, mostWords}
 use Rattle.lines.specs.Put.{Put}
 use Rattle.lines.specs.laws.Put.{put-byte, put-put, put-length}
 use Rattle.lines.specs.Listing.{decimalOf, hexOf, holderOf, lineOf}
+use Rattle.lines.specs.Message.{wordsLineOf, refusalAt, refusalLineOf}
+use Rattle.lines.specs.Number.{numeral}
+use Rattle.lines.specs.Text.{bytesIn}
 use Rattle.lines.specs.ThreadLine.{whichOf, threadLineOf}
 use Rattle.lines.specs.Shown.{Shown}
 use Rattle.lines.specs.declared.Line.{Line}
@@ -47,7 +51,7 @@ joined line n p1 p2 p3 p4 p5 p6 p7 p8 =
     ended q8 (omega arith)
 
 pub joined-thread : (position thread : ℕ) (words : List ℕ) (which : ℕ) {o s1 s2 s3 s4 : List ℕ} {r1 r2 r3 r4 : ℕ} →
-    length o ≡ threadRoom →
+    length o ≡ room →
     Put (decimalOf places32 position) (places32 + 1) o s1 0 r1 →
     Put (decimalOf places8 thread) (places8 + 1) s1 s2 r1 r2 →
     Put (take mostWords words) mostWords s2 s3 r2 r3 →
@@ -59,3 +63,26 @@ joined-thread position thread words which n p1 p2 p3 p4 =
     let q3 = put-put q2 p3 (omega arith) in
     let q4 = put-put q3 p4 (omega arith) in
     ended q4 (omega arith)
+
+pub joined-words : (words : List ℕ) {o s : List ℕ} {r : ℕ} →
+    length o ≡ room →
+    Put (take mostWords words) mostWords o s 0 r →
+    Shown (wordsLineOf words) o (set s r lineFeed) (r + 1)
+unfolding wordsLineOf
+joined-words words n p = ended p (omega arith)
+
+pub joined-refusal : (words : List ℕ) (number place : ℕ) {o s1 s2 s3 s4 : List ℕ} {r1 r2 r3 r4 : ℕ} →
+    length o ≡ room →
+    Put (take mostWords words) mostWords o s1 0 r1 →
+    Put (numeral ten true places8 number) places8 s1 s2 r1 r2 →
+    Put (bytesIn " at ") 4 s2 s3 r2 r3 →
+    Put (numeral ten true places32 place) places32 s3 s4 r3 r4 →
+    Shown (refusalLineOf words number place) o (set s4 r4 lineFeed) (r4 + 1)
+unfolding refusalLineOf
+joined-refusal words number place {o} {s4 = s4} {r4 = r4} n p1 p2 p3 p4 =
+    let q2 = put-put p1 p2 (omega arith) in
+    let q3 = put-put q2 p3 (omega arith) in
+    let q4 = put-put q3 p4 (omega arith) in
+    let parts = take mostWords words ++ numeral ten true places8 number ++ bytesIn " at " ++ numeral ten true places32 place in
+    let same : parts ++ (lineFeed ∷ []) ≡ take mostWords words ++ refusalAt number place = simp append-assoc in
+    subst (λ (l : List ℕ). Shown l o (set s4 r4 lineFeed) (r4 + 1)) same (ended q4 (omega arith))

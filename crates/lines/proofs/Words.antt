@@ -6,7 +6,6 @@ use lib.ListN.{length, getD, set, take, length-take}
 use lib.Seq.{take-suc, take-take, take-length}
 use native.Mathlib.Omega.{arith}
 use native.Mathlib.Nat.{add-zero}
-use Rattle.lines.specs.Chars.{mostWords}
 use Rattle.lines.specs.Put.{Put}
 use Rattle.lines.specs.laws.Put.{put-none, put-byte, put-put, put-as}
 
@@ -26,10 +25,10 @@ words-more o words at after i p l m n =
     let k : at + i + 1 ≡ at + suc i = omega arith in
     rw (e, take-suc words i 0 l, ← k) (put-as q refl (omega arith))
 
-pub words-all : (o words : List ℕ) (at : ℕ) (after : List ℕ) (i n : ℕ) → Putting o words at after i → i ≡ n → n ≡ length (take mostWords words)
-    → Put (take mostWords words) mostWords o after at (at + n)
-words-all o words at after i n p e f =
-    let m : i ≤ mostWords = (let h : length (take mostWords words) ≤ mostWords = simp length-take (omega arith) in omega arith) in
-    let same : take i words ≡ take mostWords words =
-    sym (take-take i mostWords words m) ∙ ap (λ (k : ℕ). take k (take mostWords words)) (e ∙ f) ∙ take-length (take mostWords words) in
+pub words-all : (o words : List ℕ) (at : ℕ) (after : List ℕ) (i n most : ℕ) → Putting o words at after i → i ≡ n → n ≡ length (take most words)
+    → Put (take most words) most o after at (at + n)
+words-all o words at after i n most p e f =
+    let m : i ≤ most = (let h : length (take most words) ≤ most = simp length-take (omega arith) in omega arith) in
+    let same : take i words ≡ take most words =
+    sym (take-take i most words m) ∙ ap (λ (k : ℕ). take k (take most words)) (e ∙ f) ∙ take-length (take most words) in
     rw (sym e) (put-as p same m)

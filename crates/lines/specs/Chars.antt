@@ -46,11 +46,8 @@ noHolder = 255
 
 -- the bytes that a line is lent
 abbrev pub room : ℕ
-room = 64
+room = 80
 
--- the most bytes of words in a thread's line, and the bytes that such a line is lent
+-- the most bytes of words in a line
 abbrev pub mostWords : ℕ
 mostWords = 61
-
-abbrev pub threadRoom : ℕ
-threadRoom = 80

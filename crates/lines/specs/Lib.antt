@@ -5,4 +5,6 @@ pub mod Put
 pub mod Listing
 pub mod Shown
 pub mod ThreadLine
+pub mod Text
+pub mod Message
 pub mod laws

@@ -1,4 +1,4 @@
-// Document 01, "The listing": the text of the line that one event prints; and of the line that one thread prints.
+// Document 01, "The listing": the text of the line that one event prints; of the line that one thread prints; and of the message lines.
 ghost use mathlib.Core.Path.{_≡_};
 ghost use Prim.Native.Nat.{_+_, _<_, _≤_};
 ghost use lib.ListN.{length};
@@ -8,9 +8,11 @@ ghost use Rattle.lines.specs.Put.{Put};
 ghost use Rattle.lines.specs.Listing.{fieldOf, decimalOf, hexOf, holderOf, lineOf};
 ghost use Rattle.lines.specs.Shown.{Shown};
 
+mod message;
 mod thread;
 
-pub use thread::THREAD_ROOM;
+pub use message::refusal_line;
+pub use message::words_line;
 pub use thread::thread_line;
 
 const SPACE: u8 = b' ';
@@ -42,8 +44,8 @@ const HEX_PLACES: usize = 8;
 // The holder's byte where no gang holds the lock.
 const NONE: u8 = 255;
 
-// The bytes that a line is lent: the longest takes 58.
-pub const ROOM: usize = 64;
+// The bytes that a line is lent: the longest, a thread's, takes them all.
+pub const ROOM: usize = 80;
 
 // What one line of the listing says of an event and its answer.
 pub struct Line {

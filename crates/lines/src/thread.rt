@@ -2,7 +2,7 @@
 ghost use mathlib.Core.Path.{_≡_};
 ghost use Prim.Native.Nat.{_+_, _≤_};
 ghost use lib.ListN.{length, take};
-ghost use Rattle.lines.specs.Chars.{places8, mostWords};
+ghost use Rattle.lines.specs.Chars.{places8};
 ghost use Rattle.lines.specs.Put.{Put};
 ghost use Rattle.lines.specs.ThreadLine.{whichOf, threadLineOf};
 ghost use Rattle.lines.specs.Shown.{Shown};
@@ -10,33 +10,31 @@ use crate::LINE_FEED;
 use crate::NONE;
 use crate::PLACES_8;
 use crate::PLACES_32;
+use crate::ROOM;
 use crate::TEN;
 use crate::put_decimal;
 use crate::put_number;
 
-// The most bytes of words that a thread's line has places for.
-const MOST_WORDS: usize = 61;
-
-// The bytes that a thread's line is lent: the longest takes them all.
-pub const THREAD_ROOM: usize = 80;
+// The most bytes of words that a line starts with or that a thread's line has places for.
+pub(crate) const MOST_WORDS: usize = 61;
 
 // How many bytes of the words are put.
-fn words_size(words: &[u8]) -> usize
-    ensures { λ r. ⌜ r ≡ length (take mostWords (now (words .entry))) ⌝ }
+fn words_size(words: &[u8], most: usize) -> usize
+    ensures { λ r. ⌜ r ≡ length (take most (now (words .entry))) ⌝ }
 {
-    if words.len() < MOST_WORDS {
+    if words.len() < most {
         words.len()
     } else {
-        MOST_WORDS
+        most
     }
 }
 
-// The words, as far as there are places for them.
-fn put_words(out: &mut [u8], at: usize, words: &[u8]) -> usize
-    requires { ⌜ at + mostWords ≤ length (now out) ⌝ }
-    ensures { λ r. ⌜ Put (take mostWords (now (words .entry))) mostWords (now (out .entry)) (now (out .exit)) at r ⌝ }
+// The words, at most so many bytes of them.
+pub(crate) fn put_words(out: &mut [u8], at: usize, words: &[u8], most: usize) -> usize
+    requires { ⌜ at + most ≤ length (now out) ⌝ }
+    ensures { λ r. ⌜ Put (take most (now (words .entry))) most (now (out .entry)) (now (out .exit)) at r ⌝ }
 {
-    let size = words_size(words);
+    let size = words_size(words, most);
     for i in 0..size {
         out[at + i] = words[i];
     }
@@ -61,13 +59,13 @@ pub fn thread_line(
     thread: u8,
     words: &[u8],
     which: u8,
-    out: &mut [u8; THREAD_ROOM],
+    out: &mut [u8; ROOM],
 ) -> usize
     ensures { λ r. ⌜ Shown (threadLineOf position thread (now (words .entry)) which) (now (out .entry)) (now (out .exit)) r ⌝ }
 {
     let mut at = put_decimal(out, 0, position, PLACES_32);
     at = put_decimal(out, at, thread as u32, PLACES_8);
-    at = put_words(out, at, words);
+    at = put_words(out, at, words, MOST_WORDS);
     at = put_which(out, at, which);
     out[at] = LINE_FEED;
     at + 1

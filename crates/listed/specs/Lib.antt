@@ -1,6 +1,5 @@
 pub mod Start
 pub mod Listed
-pub mod Text
 pub mod Messages
 pub mod Output
 pub mod ListingOf

@@ -8,7 +8,7 @@ use Rattle.reason.specs.declared.Reason.the-variants as reason
 use Rattle.reason.specs.declared.Explanation.{Explanation}
 use Rattle.reason.specs.declared.Explanation.the-variants as explanation
 use Rattle.reason.specs.Why.{reasonWhich, whyOf}
-use Rattle.listed.specs.Text.{bytesIn}
+use Rattle.lines.specs.Text.{bytesIn}
 use Rattle.listed.specs.Output.{Print, outputOf}
 
 -- each reason in words; the thread or gang that one names follows them

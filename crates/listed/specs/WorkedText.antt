@@ -1,7 +1,7 @@
 -- The texts of the worked table, line by line.
 use Prim.Native.Nat.{ℕ}
 use mathlib.Core.List.{List, _++_}
-use Rattle.listed.specs.Text.{bytesIn}
+use Rattle.lines.specs.Text.{bytesIn}
 
 -- the listing of document 01's input
 abbrev pub thirteenLines : List ℕ

@@ -6,10 +6,14 @@ ghost use Rattle.lines.specs.Shown.{Shown};
 ghost use Rattle.listed.specs.Start.{splitAt, eventsStart};
 ghost use Rattle.listed.specs.Listed.{lineWith, textOf, listedOf};
 
+mod messages;
 mod reasons;
 
 use lines::Line;
 use lines::ROOM;
+pub use messages::list_stopped;
+pub use messages::list_table_refused;
+pub use messages::list_too_long;
 pub use reasons::list_reason;
 use system::System;
 use wire::answer::AnswerRecord;

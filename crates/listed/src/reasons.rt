@@ -1,14 +1,14 @@
 // Document 02, K3: the line that one thread prints after an event, in words that a planner developer understands.
 ghost use Rattle.lines.specs.Shown.{Shown};
 ghost use Rattle.listed.specs.Reasons.{reasonLine, reasonText};
-use lines::THREAD_ROOM;
+use lines::ROOM;
 use lines::thread_line;
 use reason::Explanation;
 use reason::Reason;
 use system::System;
 
 // Puts why a thread isn't running at the start of the text; how many bytes it takes, none for a thread that is not there.
-pub fn list_reason(system: System, position: u32, t: u8, text: &mut [u8; THREAD_ROOM]) -> usize
+pub fn list_reason(system: System, position: u32, t: u8, text: &mut [u8; ROOM]) -> usize
     ensures { λ r. ⌜ Shown (reasonText system position t) (now (text .entry)) (now (text .exit)) r ⌝ }
 {
     let explained = reason::why(system, t);
@@ -20,7 +20,7 @@ pub fn list_reason(system: System, position: u32, t: u8, text: &mut [u8; THREAD_
 }
 
 // A reason in words.
-fn reason_line(position: u32, t: u8, reason: Reason, text: &mut [u8; THREAD_ROOM]) -> usize
+fn reason_line(position: u32, t: u8, reason: Reason, text: &mut [u8; ROOM]) -> usize
     ensures { λ r. ⌜ Shown (reasonLine position t reason) (now (text .entry)) (now (text .exit)) r ⌝ }
 {
     let which = reason::reason_which(reason);

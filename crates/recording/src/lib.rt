@@ -3,7 +3,6 @@ ghost use Prim.Native.Nat.{_≤_};
 ghost use lib.ListN.{length};
 ghost use Rattle.listed.specs.Output.{mostBytes};
 use lines::ROOM;
-use lines::THREAD_ROOM;
 use listed::MOST_BYTES;
 use system::System;
 
@@ -27,7 +26,7 @@ pub fn run(shows: Shows) {
     let mut buffer = [0u8; BUFFER];
     let n = io::read_full(STDIN, &mut buffer);
     if n > MOST_BYTES {
-        io::write_all(STDOUT, b"input too long\n");
+        print_too_long();
         return;
     }
     print_input(shows, &buffer[..n]);
@@ -40,8 +39,7 @@ fn print_input(shows: Shows, bytes: &[u8])
     let start = listed::events_start(bytes);
     let read = reading::read_system(&bytes[..start]);
     if read.number != 0 {
-        io::write_all(STDOUT, b"table refused ");
-        print_refusal(read.number, read.place);
+        print_table_refused(read.number, read.place as u32);
         return;
     }
     print_events(shows, read.system, bytes, start);
@@ -59,8 +57,7 @@ fn print_events(shows: Shows, system: System, bytes: &[u8], start: usize)
         // An event is taken by making its line, also where the line is not what is shown.
         let event = listed::list_event(system, position, &bytes[at..], &mut text);
         if event.number != 0 {
-            io::write_all(STDOUT, b"stopped ");
-            print_refusal(event.number, at);
+            print_stopped(event.number, at as u32);
             return;
         }
         let length = event.length;
@@ -84,17 +81,30 @@ fn print_event(shows: Shows, system: System, position: u32, line: &[u8]) {
 
 // Why each thread isn't running, thread after thread.
 fn print_reasons(system: System, position: u32) {
-    let mut text = [0u8; THREAD_ROOM];
+    let mut text = [0u8; ROOM];
     for t in 0..system.table.sizes.threads {
         let length = listed::list_reason(system, position, t, &mut text);
         io::write_all(STDOUT, &text[..length]);
     }
 }
 
-// "R at P", which ends the line.
-fn print_refusal(number: u8, place: usize) {
-    io::print_decimal(STDOUT, number as u64);
-    io::write_all(STDOUT, b" at ");
-    io::print_decimal(STDOUT, place as u64);
-    io::write_all(STDOUT, b"\n");
+// The line of an input that is too long.
+fn print_too_long() {
+    let mut text = [0u8; ROOM];
+    let length = listed::list_too_long(&mut text);
+    io::write_all(STDOUT, &text[..length]);
+}
+
+// The line of a table that is refused.
+fn print_table_refused(number: u8, place: u32) {
+    let mut text = [0u8; ROOM];
+    let length = listed::list_table_refused(number, place, &mut text);
+    io::write_all(STDOUT, &text[..length]);
+}
+
+// The line of events that stop before the end.
+fn print_stopped(number: u8, place: u32) {
+    let mut text = [0u8; ROOM];
+    let length = listed::list_stopped(number, place, &mut text);
+    io::write_all(STDOUT, &text[..length]);
 }

@@ -10,16 +10,15 @@ use borrow.Author.Needs.{needs}
 use Rattle.recording.proofs.print_events.Statement.{statement}
 use Rattle.recording.proofs.print_events.Tie as tie
 
--- t12 holds the eight bytes of "stopped "
 abbrev Inv-loop : tie.InvT-loop
-Inv-loop shows bytes start system₀ at₀ position₀ text₀ t12 system at position text =
-    (at ≤ length bytes) × (position ≤ at + 1) × (length t12 ≡ 8)
+Inv-loop shows bytes start system₀ at₀ position₀ text₀ system at position text =
+    (at ≤ length bytes) × (position ≤ at + 1)
 
 abbrev μ-loop : tie.MeasureT-loop
-μ-loop shows bytes start system₀ at₀ position₀ text₀ t12 system at position text = length bytes - at
+μ-loop shows bytes start system₀ at₀ position₀ text₀ system at position text = length bytes - at
 
 loop-holds : tie.Need-loop-holds Inv-loop μ-loop
-loop-holds c = (c .before .pre .0, omega arith, refl)
+loop-holds c = (c .before .pre .0, omega arith)
 
 sub-list-event : tie.Need-sub-list-event Inv-loop μ-loop
 sub-list-event c = omega arith
@@ -33,14 +32,13 @@ part-list-event-end c = omega arith
 list-event-requires : tie.Need-list-event-requires Inv-loop μ-loop
 list-event-requires c κs = tt
 
-slice-aggregate-write-all : tie.Need-slice-aggregate-write-all Inv-loop μ-loop
-slice-aggregate-write-all c = search needs
+cast-print-stopped : tie.Need-cast-print-stopped Inv-loop μ-loop
+cast-print-stopped c =
+    let loop = c .before .before .before .before .before .before in
+    omega (arith, loop .loop .inv .0, loop .before .before .pre .1)
 
-write-all-requires : tie.Need-write-all-requires Inv-loop μ-loop
-write-all-requires c κs = tt
-
-print-refusal-requires : tie.Need-print-refusal-requires Inv-loop μ-loop
-print-refusal-requires c κs = tt
+print-stopped-requires : tie.Need-print-stopped-requires Inv-loop μ-loop
+print-stopped-requires c κs = tt
 
 returns : tie.Need-returns Inv-loop μ-loop
 returns c = search needs
@@ -81,7 +79,7 @@ loop-less : tie.Need-loop-less Inv-loop μ-loop
 loop-less c = omega (arith, took c)
 
 loop-again : tie.Need-loop-again Inv-loop μ-loop
-loop-again c = (took c .1, omega (arith, took c .0), refl)
+loop-again c = (took c .1, omega (arith, took c .0))
 
 returns-2 : tie.Need-returns-2 Inv-loop μ-loop
 returns-2 c = search needs
@@ -97,9 +95,8 @@ print-events-spec =
     part-list-event-start
     part-list-event-end
     list-event-requires
-    slice-aggregate-write-all
-    write-all-requires
-    print-refusal-requires
+    cast-print-stopped
+    print-stopped-requires
     returns
     array-share-prefix-text
     slice-aggregate-print-event

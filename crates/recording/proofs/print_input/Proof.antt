@@ -2,8 +2,9 @@
 use Prim.Native.Nat.{_≤_}
 use native.Mathlib.Omega.{arith}
 use denote.Ref.{now}
-use lib.ListN.{length, length-take}
+use lib.ListN.{length, take, length-take}
 use Rattle.listed.specs.laws.Start.{start-inside}
+use Rattle.recording.proofs.Place.{place-within}
 use borrow.Author.Needs.{needs}
 use Rattle.recording.proofs.print_input.Statement.{statement}
 use Rattle.recording.proofs.print_input.Tie as tie
@@ -20,14 +21,16 @@ slice-aggregate-read-system c = simp length-take (omega (arith, within-bytes (c 
 read-system-requires : tie.Need-read-system-requires
 read-system-requires c κs = tt
 
-slice-aggregate-write-all : tie.Need-slice-aggregate-write-all
-slice-aggregate-write-all c = search needs
+cast-print-table-refused : tie.Need-cast-print-table-refused
+cast-print-table-refused c =
+    let read = c .before .before .before in
+    let entered = read .before .before .before .before in
+    let place = place-within (take (read .before .before .events-start .result) (now (entered .args .bytes))) (read .read-system .ensures) in
+    let part = length-take (read .before .before .events-start .result) (now (entered .args .bytes)) in
+    omega (arith, entered .pre)
 
-write-all-requires : tie.Need-write-all-requires
-write-all-requires c κs = tt
-
-print-refusal-requires : tie.Need-print-refusal-requires
-print-refusal-requires c κs = tt
+print-table-refused-requires : tie.Need-print-table-refused-requires
+print-table-refused-requires c κs = tt
 
 returns : tie.Need-returns
 returns c = search needs
@@ -46,9 +49,8 @@ print-input-spec =
     events-start-requires
     slice-aggregate-read-system
     read-system-requires
-    slice-aggregate-write-all
-    write-all-requires
-    print-refusal-requires
+    cast-print-table-refused
+    print-table-refused-requires
     returns
     print-events-requires
     returns-2)

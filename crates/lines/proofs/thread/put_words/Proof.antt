@@ -5,17 +5,16 @@ use native.Mathlib.Omega.{arith}
 use denote.Ref.{now}
 use lib.ListN.{length, length-take, length-set}
 use borrow.Author.Needs.{needs}
-use Rattle.lines.specs.Chars.{mostWords}
 use Rattle.lines.proofs.Words.{Putting, words-none, words-more, words-all}
 use Rattle.lines.proofs.thread.put_words.Statement.{statement}
 use Rattle.lines.proofs.thread.put_words.Tie as tie
 
 abbrev Inv-loop : tie.InvT-loop
-Inv-loop out₀ at words size i₀ out i =
-    (i ≤ size) × (size ≤ length words) × (size ≤ mostWords) × (length out ≡ length out₀) × Putting out₀ words at out i
+Inv-loop out₀ at words most size i₀ out i =
+    (i ≤ size) × (size ≤ length words) × (size ≤ most) × (length out ≡ length out₀) × Putting out₀ words at out i
 
 abbrev μ-loop : tie.MeasureT-loop
-μ-loop out₀ at words size i₀ out i = size - i
+μ-loop out₀ at words most size i₀ out i = size - i
 
 words-size-requires : tie.Need-words-size-requires Inv-loop μ-loop
 words-size-requires c κs = search needs
@@ -24,7 +23,7 @@ loop-holds : tie.Need-loop-holds Inv-loop μ-loop
 loop-holds c =
     let a = c .before .before .before .args in
     let e = c .words-size .ensures in
-    let l = length-take mostWords (now (a .words)) in
+    let l = length-take (a .most) (now (a .words)) in
     (omega arith, omega arith, omega arith, refl, words-none (now (a .out)) (now (a .words)) (a .at))
 
 shared-slice-read-out : tie.Need-shared-slice-read-out Inv-loop μ-loop
@@ -60,7 +59,7 @@ returns c =
     let l = c .before .loop in
     let e = c .before .before .words-size .ensures in
     let a = c .before .before .before .before .before .args in
-    words-all (now (a .out)) (now (a .words)) (a .at) (l .out) (l .i) (c .before .before .words-size .result) (l .inv .4) (omega arith) e
+    words-all (now (a .out)) (now (a .words)) (a .at) (l .out) (l .i) (c .before .before .words-size .result) (a .most) (l .inv .4) (omega arith) e
 
 pub put-words-spec : {M : Type 1} → statement M
 put-words-spec =
