@@ -16,7 +16,7 @@ use Rattle.wire.specs.declared.answer.Answer.the-variants.{Refused, Served, Ski
 use Rattle.wire.specs.declared.refusal.Refusal.{Refusal}
 use Rattle.system.specs.declared.System.{System}
 use Rattle.system.specs.declared.steps.Stepped.{Stepped}
-use Rattle.system.specs.laws.StepCases.{release-served, release-skipped, serve-done, traffic-counted}
+use Rattle.system.specs.laws.StepCases.{released-served, released-skipped, serve-done, traffic-counted}
 use Rattle.system.specs.Events.{replyOf, refusedBy, releasedBy, turned, servedLock, serveStep, trafficStep}
 use Rattle.system.specs.Parts.{steppedOf, threadParts, releaseParts, serveParts, trafficParts}
 use Rattle.system.specs.System.{occupantIn, withLock}
@@ -47,12 +47,12 @@ module _ (s : System) (sizes : Sizes) (gang core state number served skipped job
       → releasedBy released g
       ≡ replyOf (releaseParts s sizes gang core state′ number′ served′ skipped job′
       (record { holder = held .holder; locked = held .locked; blocked = held .blocked; owing = owing })) (Served n)
-  put-served f e o k v j n = release-served released g f ∙ sym (rw (n, e, o, k, v, j))
+  put-served f e o k v j n = released-served released g f ∙ sym (rw (n, e, o, k, v, j))
 
   pub put-skipped : {number′ skipped′ : List ℕ} {n : ℕ} → allFinished state gang g (sizes .threads) ≡ false
       → number′ ≡ raisedAt number g → skipped′ ≡ raisedAt skipped g → n ≡ getD number′ g 0
       → releasedBy released g ≡ replyOf (releaseParts s sizes gang core state number′ served skipped′ job held) (Skipped n)
-  put-skipped f k v n = release-skipped released g f ∙ sym (rw (n, k, v))
+  put-skipped f k v n = released-skipped released g f ∙ sym (rw (n, k, v))
 
 module _ (s : System) (sizes : Sizes) (priority gang core state : List ℕ) (held : Held) (occupant : List ℕ) (c : ℕ) where
   abbrev serviced : System

@@ -42,15 +42,15 @@ module _ (s : System) (g : ℕ) where
   unfolding releaseStep
   release-taken h e = rw (lt-leb (s .table .sizes .gangs) g h, ne-eqb (numberIn s g) lastNumber e)
 
-  pub release-served : allFinished (s .state) (s .table .gang) g (s .table .sizes .threads) ≡ true
+  pub released-served : allFinished (s .state) (s .table .gang) g (s .table .sizes .threads) ≡ true
       → releasedBy s g ≡ replyOf (servedBy s g) (Served (numberIn (servedBy s g) g))
   unfolding releasedBy
-  release-served e = rw e
+  released-served e = rw e
 
-  pub release-skipped : allFinished (s .state) (s .table .gang) g (s .table .sizes .threads) ≡ false
+  pub released-skipped : allFinished (s .state) (s .table .gang) g (s .table .sizes .threads) ≡ false
       → releasedBy s g ≡ replyOf (skippedBy s g) (Skipped (numberIn (skippedBy s g) g))
   unfolding releasedBy
-  release-skipped e = rw e
+  released-skipped e = rw e
 
 -- FINISH and WAIT
 module _ (s : System) (t v : ℕ) where
