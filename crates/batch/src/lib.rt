@@ -13,7 +13,7 @@ mod turns;
 
 // What a batch comes to: the system, the bytes read and written, and the number it stopped with, 0 at the end of the events.
 #[repr(C)]
-#[derive(Drop)]
+#[derive(Clone, Copy)]
 pub struct Batched {
     pub system: System,
     pub read: usize,

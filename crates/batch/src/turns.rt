@@ -13,7 +13,7 @@ use wire::event::NextEvent;
 use wire::refusal::Refusal;
 
 // What the turns come to, beside the parts that they are lent.
-#[derive(Drop)]
+#[derive(Clone, Copy)]
 pub(crate) struct Turns {
     pub held: Held,
     pub read: usize,

@@ -13,7 +13,7 @@ use wire::refusal::Refusal;
 
 // The system after an event, and the fields of its ANSWER.
 #[repr(C)]
-#[derive(Drop)]
+#[derive(Clone, Copy)]
 pub struct Answered {
     pub system: System,
     pub answer: AnswerRecord,
@@ -21,7 +21,7 @@ pub struct Answered {
 
 // An event by its kind: `number` is its gang, thread or core, and only TRAFFIC has transactions.
 #[repr(C)]
-#[derive(Drop)]
+#[derive(Clone, Copy)]
 pub struct EventValue {
     pub kind: u16,
     pub number: u8,
@@ -29,7 +29,7 @@ pub struct EventValue {
 }
 
 // The event that a kind names, if it names one.
-#[derive(Drop)]
+#[derive(Clone, Copy)]
 pub(crate) enum Named {
     Event(Event),
     Unknown,

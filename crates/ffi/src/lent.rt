@@ -13,7 +13,7 @@ use wire::refusal::Refusal;
 
 // What an event comes to, beside the parts that it was lent: the holder and the blocked cores, and its ANSWER, with the owing and the locked ones.
 #[repr(C)]
-#[derive(Drop)]
+#[derive(Clone, Copy)]
 pub struct Outcome {
     pub holder: u8,
     pub blocked: u32,

@@ -9,7 +9,7 @@ use system::{System, Told};
 
 // A question's refusal number, 0 where it has a value, and that value, 0 where it is refused.
 #[repr(C)]
-#[derive(Drop)]
+#[derive(Clone, Copy)]
 pub struct Found {
     pub refusal: u8,
     pub value: u32,
@@ -92,7 +92,7 @@ pub extern "C" fn gjalvorn_owing_count(system: System) -> Found
 // Why a thread isn't running: the refusal number, 0 where there is a reason; the reason's number; and the thread or gang that it names,
 // 255 where it names none. Where the question is refused the last two are 0.
 #[repr(C)]
-#[derive(Drop)]
+#[derive(Clone, Copy)]
 pub struct ReasonFound {
     pub refusal: u8,
     pub reason: u8,

@@ -13,7 +13,7 @@ pub const PLACES: u8 = 32;
 
 // For each gang: the number of its last release, how many releases were served and skipped, and its current job's number.
 #[repr(C)]
-#[derive(Drop)]
+#[derive(Clone, Copy)]
 pub struct Ledger {
     pub number: [u32; 32],
     pub served: [u32; 32],

@@ -45,7 +45,7 @@ const NONE: u8 = 255;
 pub const ROOM: usize = 80;
 
 // What one line of the listing says of an event and its answer.
-#[derive(Drop)]
+#[derive(Clone, Copy)]
 pub struct Line {
     pub position: u32,
     pub kind: u16,

@@ -57,7 +57,7 @@ fn split_at(bytes: &[u8], at: usize) -> usize
 
 // What listing an event comes to: the system after it, how many bytes its record and its line take, and 0.
 // Where its record is refused: the system as it came, no bytes, and the refusal's number.
-#[derive(Drop)]
+#[derive(Clone, Copy)]
 pub struct Listed {
     pub system: System,
     pub size: usize,

@@ -10,7 +10,7 @@ pub use rules::lock_ok;
 
 // Who holds the lock, which cores are locked, blocked and owing, and each core's occupant.
 #[repr(C)]
-#[derive(Drop)]
+#[derive(Clone, Copy)]
 pub struct Lock {
     pub holder: u8,
     pub locked: u32,
@@ -21,7 +21,7 @@ pub struct Lock {
 
 // A lock but for the occupants: what an event takes and hands back, while the occupants are lent.
 #[repr(C)]
-#[derive(Drop)]
+#[derive(Clone, Copy)]
 pub struct Held {
     pub holder: u8,
     pub locked: u32,

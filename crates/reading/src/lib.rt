@@ -23,7 +23,7 @@ pub const DEFAULT_BUDGET: u32 = 1000000;
 
 // What reading comes to. Accepted: the table, 0 and the length of the bytes.
 // Refused: the empty table, the refusal's number and the place of the refused record or, for 8, the length of the bytes.
-#[derive(Drop)]
+#[derive(Clone, Copy)]
 pub struct Reading {
     pub table: Table,
     pub number: u8,
@@ -39,7 +39,7 @@ pub fn read_table(bytes: &[u8]) -> Reading
 
 // What reading comes to, as a system: a fresh one of the accepted table, or the empty system beside the refusal's number and place.
 #[repr(C)]
-#[derive(Drop)]
+#[derive(Clone, Copy)]
 pub struct SystemRead {
     pub system: System,
     pub number: u8,

@@ -13,14 +13,14 @@ use wire::refusal::Refusal;
 use wire::table_record::TableRecord;
 
 // Whether a record, or the table's end, is accepted.
-#[derive(Drop)]
+#[derive(Clone, Copy)]
 pub enum Verdict {
     Accepted,
     Refused(Refusal),
 }
 
 // The sizes with a record taken in, or as they came where it is refused: the lists are changed where they lie.
-#[derive(Drop)]
+#[derive(Clone, Copy)]
 pub struct Took {
     pub sizes: Sizes,
     pub verdict: Verdict,

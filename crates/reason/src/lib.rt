@@ -9,7 +9,7 @@ use system::System;
 use wire::refusal::Refusal;
 
 // Why a thread stands as it does, in the order in which they are asked.
-#[derive(Drop)]
+#[derive(Clone, Copy)]
 pub enum Reason {
     Finished,
     Waiting,
@@ -24,14 +24,14 @@ pub enum Reason {
 }
 
 // The reason, or why the question is refused.
-#[derive(Drop)]
+#[derive(Clone, Copy)]
 pub enum Explanation {
     Reason(Reason),
     Refused(Refusal),
 }
 
 // What the question finds, beside the system as it came.
-#[derive(Drop)]
+#[derive(Clone, Copy)]
 pub struct Explained {
     pub system: System,
     pub explanation: Explanation,

@@ -14,7 +14,7 @@ const STDOUT: i32 = 1;
 const BUFFER: usize = MOST_BYTES + 1;
 
 // What is printed after an event.
-#[derive(Drop)]
+#[derive(Clone, Copy)]
 pub enum Shows {
     // Document 01, "The listing": the event's line.
     Line,

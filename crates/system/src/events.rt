@@ -14,7 +14,7 @@ use wire::event::Event;
 use wire::refusal::Refusal;
 
 // What an event comes to, beside the system as it is then.
-#[derive(Drop)]
+#[derive(Clone, Copy)]
 pub struct Reply {
     pub system: System,
     pub answer: Answer,

@@ -18,7 +18,7 @@ pub use questions::{Finding, Told, finding_refusal, finding_value};
 pub use well_formed::parts_ok;
 
 #[repr(C)]
-#[derive(Drop)]
+#[derive(Clone, Copy)]
 pub struct System {
     pub table: Table,
     // Each thread's state: finished, ready or waiting.

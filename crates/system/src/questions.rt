@@ -9,14 +9,14 @@ use state::allowance::is_stopped;
 use wire::refusal::Refusal;
 
 // What a question finds: a value, or why it is refused.
-#[derive(Drop)]
+#[derive(Clone, Copy)]
 pub enum Finding {
     Value(u32),
     Refused(Refusal),
 }
 
 // What a question finds, beside the system as it came.
-#[derive(Drop)]
+#[derive(Clone, Copy)]
 pub struct Told {
     pub system: System,
     pub finding: Finding,

@@ -18,7 +18,7 @@ use wire::event::Event;
 use wire::refusal::Refusal;
 
 // What an event comes to, beside the holder and the core sets that it leaves.
-#[derive(Drop)]
+#[derive(Clone, Copy)]
 pub struct Stepped {
     pub held: Held,
     pub answer: Answer,

@@ -28,7 +28,7 @@ pub const WAITING: u8 = 2;
 
 // How many cores, gangs and threads there are.
 #[repr(C)]
-#[derive(Drop)]
+#[derive(Clone, Copy)]
 pub struct Sizes {
     pub cores: u8,
     pub gangs: u8,
@@ -37,7 +37,7 @@ pub struct Sizes {
 
 // Each gang's priority and budget, and each thread's gang and the core that it is pinned to.
 #[repr(C)]
-#[derive(Drop)]
+#[derive(Clone, Copy)]
 pub struct Table {
     pub sizes: Sizes,
     pub priority: [u8; 32],

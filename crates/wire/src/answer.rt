@@ -6,7 +6,7 @@ use crate::kinds::ANSWER;
 use crate::refusal::Refusal;
 
 // What an event comes to.
-#[derive(Drop)]
+#[derive(Clone, Copy)]
 pub enum Answer {
     Refused(Refusal),
     // RELEASE took this number, and was served.
@@ -23,7 +23,7 @@ pub enum Answer {
 
 // The fields of an ANSWER record.
 #[repr(C)]
-#[derive(Drop)]
+#[derive(Clone, Copy)]
 pub struct AnswerRecord {
     pub refusal: u8,
     pub value: u8,
@@ -33,7 +33,7 @@ pub struct AnswerRecord {
 }
 
 // What a writer says: how many bytes it wrote, or why it wrote none.
-#[derive(Drop)]
+#[derive(Clone, Copy)]
 pub enum Written {
     Bytes(usize),
     Refused(Refusal),

@@ -7,7 +7,7 @@ use crate::number::{byte_at, u32_at};
 use crate::record::{Seen, payload_of, record_at};
 use crate::refusal::Refusal;
 
-#[derive(Drop)]
+#[derive(Clone, Copy)]
 pub enum Event {
     Release(u8),
     Finish(u8),
@@ -19,7 +19,7 @@ pub enum Event {
 }
 
 // The event at the start of some bytes, and the place of the record after it.
-#[derive(Drop)]
+#[derive(Clone, Copy)]
 pub enum NextEvent {
     Event { event: Event, next: usize },
     Refused(Refusal),

@@ -25,7 +25,7 @@ pub const TICK: u16 = 22;
 pub const ANSWER: u16 = 64;
 
 // A kind, and the length that its records have.
-#[derive(Drop)]
+#[derive(Clone, Copy)]
 pub struct Pair {
     pub kind: u16,
     pub len: u16,
@@ -71,7 +71,7 @@ const LENGTHS: [Pair; PAIRS] = [
 ];
 
 // What is being read.
-#[derive(Drop)]
+#[derive(Clone, Copy)]
 pub enum Stream {
     Table,
     Events,

@@ -13,7 +13,7 @@ pub const HEADER: usize = 4;
 const UNCOUNTED: usize = 2;
 
 // What stands at a place: a whole record's kind and the place of the next record, or why not.
-#[derive(Drop)]
+#[derive(Clone, Copy)]
 pub enum Seen {
     Record { kind: u16, next: usize },
     Refused(Refusal),
@@ -52,7 +52,7 @@ pub fn record_at(stream: Stream, s: &[u8], place: usize) -> Seen
 }
 
 // What the question finds, in document 01's numbers: refusal 0 with the kind and the next place, or the refusal with both 0.
-#[derive(Drop)]
+#[derive(Clone, Copy)]
 pub struct RecordTold {
     pub refusal: u8,
     pub kind: u16,

@@ -3,7 +3,7 @@ ghost use Rattle.std.specs.Prelude.{◌≡◌};
 ghost use Rattle.wire.specs.Refusal.{number_of};
 
 // Why a record, a table, an event, a question or a batch is refused.
-#[derive(Drop)]
+#[derive(Clone, Copy)]
 pub enum Refusal {
     // Fewer bytes are left than the record takes.
     CutShort,

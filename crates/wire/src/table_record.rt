@@ -7,7 +7,7 @@ use crate::number::{byte_at, u32_at};
 use crate::record::{Seen, payload_of, record_at};
 use crate::refusal::Refusal;
 
-#[derive(Drop)]
+#[derive(Clone, Copy)]
 pub enum TableRecord {
     Cores(u8),
     Gang { priority: u8, budget: u32 },
@@ -17,7 +17,7 @@ pub enum TableRecord {
 }
 
 // The table record at the start of some bytes, and the place of the record after it.
-#[derive(Drop)]
+#[derive(Clone, Copy)]
 pub enum NextTableRecord {
     Record { record: TableRecord, next: usize },
     Refused(Refusal),
