@@ -1,7 +1,7 @@
 -- The kept count "is kept as the smaller of 1,000,000 and the true sum since the last TICK, which changes no stop": at every reached state,
 -- against the history of the way to it.
 use Rattle.std.specs.Prelude.{ℕ, ◌+◌, min, Bool, true, false, ◌≡◌, refl, List, [], ◌∷◌, ◌++◌}
-use Rattle.std.proofs.Math.Bool.{and_false}
+use Rattle.std.proofs.Math.Bool.{and-false}
 use Rattle.std.proofs.Math.Path.{ap}
 use Rattle.std.proofs.Common.{◌∙◌, arith}
 use borrow.Author.Tests.{le-leb, eq-eqb, ne_eqb}
@@ -41,7 +41,7 @@ module _ (s : System) (c : ℕ) where
   -- "A free lock stops nobody"
   pub free_stops_nobody : s.lock.holder ≡ 255 → stopped s c ≡ false
   unfolding stopped_at
-  free_stops_nobody free = rw (eq-eqb s.lock.holder 255 free, and_false)
+  free_stops_nobody free = rw (eq-eqb s.lock.holder 255 free, and-false)
 
 -- ---- core c at the state that some events lead to from an accepted table, against their history
 

@@ -161,14 +161,14 @@ shifted_one k c h = let e : 1 * 2 ^ c ≡ 2 ^ c = omega arith in ap (λ (x : ℕ
 
 -- ---- union and intersection, bit by bit
 
-pub bit_or : (a b d : ℕ) → bit (bit_or a b) d ≡ max (bit a d) (bit b d)
+pub bit_or_lem : (a b d : ℕ) → bit (bit_or a b) d ≡ max (bit a d) (bit b d)
 unfolding bit
-bit_or a b d =
+bit_or_lem a b d =
     ap (λ (x : ℕ). x % 2) (or_shr a b d ∙ or_step (a / 2 ^ d) (b / 2 ^ d))
     ∙ digits_mod (bit_or (a / 2 ^ d / 2) (b / 2 ^ d / 2)) (omega arith)
 
-pub bit_and : (a b d : ℕ) → bit (bit_and a b) d ≡ min (bit a d) (bit b d)
+pub bit_and_lem : (a b d : ℕ) → bit (bit_and a b) d ≡ min (bit a d) (bit b d)
 unfolding bit
-bit_and a b d =
+bit_and_lem a b d =
     ap (λ (x : ℕ). x % 2) (and_shr a b d ∙ and_step (a / 2 ^ d) (b / 2 ^ d))
     ∙ digits_mod (bit_and (a / 2 ^ d / 2) (b / 2 ^ d / 2)) (omega arith)

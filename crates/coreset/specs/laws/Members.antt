@@ -7,7 +7,7 @@ use Rattle.std.proofs.Math.Decide.{ℕ_discrete, dec_lt}
 use Rattle.std.specs.Int.Bits.{bit_or, bit_and}
 use Rattle.std.proofs.lemmas.Bool.{eqb-false}
 use Rattle.coreset.specs.Set.{bit, has, with_bit, with_core, without_core, within_width}
-use Rattle.coreset.specs.laws.Bits.{bit_lt, bit_put_same, bit_put_other, put_bit, put_lt, bit_beyond, bits_ext, bit_or, bit_and}
+use Rattle.coreset.specs.laws.Bits.{bit_lt, bit_put_same, bit_put_other, put_bit, put_lt, bit_beyond, bits_ext, bit_or_lem, bit_and_lem}
 
 -- ---- the laws of membership
 
@@ -157,11 +157,11 @@ and_test x y p q = bits2 x p (λ e. bits2 y q (λ f. rw (e, f)) (λ f. rw (e, f)
 
 pub has_or : (a b d : ℕ) → has (bit_or a b) d ≡ (has a d || has b d)
 unfolding has
-has_or a b d = ap (λ (x : ℕ). eqb x 1) (bit_or a b d) ∙ or_test (bit a d) (bit b d) (bit_lt a d) (bit_lt b d)
+has_or a b d = ap (λ (x : ℕ). eqb x 1) (bit_or_lem a b d) ∙ or_test (bit a d) (bit b d) (bit_lt a d) (bit_lt b d)
 
 pub has_and : (a b d : ℕ) → has (bit_and a b) d ≡ (has a d && has b d)
 unfolding has
-has_and a b d = ap (λ (x : ℕ). eqb x 1) (bit_and a b d) ∙ and_test (bit a d) (bit b d) (bit_lt a d) (bit_lt b d)
+has_and a b d = ap (λ (x : ℕ). eqb x 1) (bit_and_lem a b d) ∙ and_test (bit a d) (bit b d) (bit_lt a d) (bit_lt b d)
 
 -- ---- extensionality with no width
 

@@ -1,6 +1,6 @@
 -- What the test of a lock comes to where a clause of it fails, and where all hold: what the code's branches go by.
 use Rattle.std.specs.Prelude.{ℕ, ◌<◌, true, false, ◌&&◌, ◌≡◌}
-use Rattle.std.proofs.Math.Bool.{and_false}
+use Rattle.std.proofs.Math.Bool.{and-false}
 use Rattle.coreset.specs.Set.{has}
 use Rattle.ranges.specs.laws.Range.{make_every, not_every}
 use Rattle.lock.specs.declared.Lock.{Lock}
@@ -29,11 +29,11 @@ module _ (p : Pins) (l : Lock) (c t : ℕ) (e : t ≡ occupant_of l c) where
 
   pub core_not_pinned : pinned_ok p.cores p.threads c t (pin_core p t) ≡ false → core_ok p l c ≡ false
   unfolding core_ok
-  core_not_pinned f = rw (← e, f, and_false (sets_ok p.cores c (has (named l) c)))
+  core_not_pinned f = rw (← e, f, and-false (sets_ok p.cores c (has (named l) c)))
 
   pub core_not_ours : ours_ok l.holder (has l.locked c) t (pin_gang p t) ≡ false → core_ok p l c ≡ false
   unfolding core_ok
-  core_not_ours f = rw (← e, f, and_false _)
+  core_not_ours f = rw (← e, f, and-false _)
 
   pub core_all : sets_ok p.cores c (has (named l) c) ≡ true → pinned_ok p.cores p.threads c t (pin_core p t) ≡ true
       → ours_ok l.holder (has l.locked c) t (pin_gang p t) ≡ true → core_ok p l c ≡ true
@@ -47,12 +47,12 @@ module _ (p : Pins) (l : Lock) where
 
   pub lock_not_idle : idle_ok l.holder l.blocked ≡ false → lock_ok p l ≡ false
   unfolding lock_ok
-  lock_not_idle e = rw (e, and_false (held_ok p.gangs l.holder l.locked))
+  lock_not_idle e = rw (e, and-false (held_ok p.gangs l.holder l.locked))
 
   pub lock_not_core : (c : ℕ) → c < 32 → core_ok p l c ≡ false → lock_ok p l ≡ false
   unfolding lock_ok cores_ok
   lock_not_core c h e =
-      rw (not_every 32 (core_ok p l) c h e) (and_false (held_ok p.gangs l.holder l.locked && idle_ok l.holder l.blocked))
+      rw (not_every 32 (core_ok p l) c h e) (and-false (held_ok p.gangs l.holder l.locked && idle_ok l.holder l.blocked))
 
   pub lock_all : held_ok p.gangs l.holder l.locked ≡ true → idle_ok l.holder l.blocked ≡ true
       → ((c : ℕ) → c < 32 → core_ok p l c ≡ true) → lock_ok p l ≡ true

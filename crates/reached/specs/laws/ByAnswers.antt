@@ -1,6 +1,6 @@
 -- Laws of `ByAnswers`: by the ANSWER records of a history a release is taken, served or skipped exactly where it is by the history's entries.
 use Rattle.std.specs.Prelude.{ℕ, Bool, ◌≡◌, eqb}
-use Rattle.std.proofs.Math.Bool.{true, false, cond, and_false, and-true}
+use Rattle.std.proofs.Math.Bool.{true, false, cond, and-false, and-true}
 use Rattle.std.proofs.Math.Path.{refl}
 use Rattle.std.proofs.Common.{sym, subst, arith, ne_eqb}
 use mathlib.Core.List.{List, [], ◌∷◌, map}
@@ -33,12 +33,12 @@ module _ (s : System) (g : ℕ) where
   refused_told : (e : Event) (r : Refusal) → SameTold g (entry_with e (refused_by s r))
   refused_told e r =
       let some : eqb (number_of r) 0 ≡ false = ne_eqb (number_of r) 0 (λ z. omega (arith, some_number r)) in
-      let none = and_false (is_release g e) in
+      let none = and-false (is_release g e) in
       record { taken = rw (some, none); served = rw (some, none); skipped = rw (some, none) }
 
   accepted_told : {e : Event} {r : Reply} → Accepts s e r → SameTold g (entry_with e r)
-  accepted_told (serves_release {g = d} l ne q) = record { taken = rw and-true; served = simp and-true; skipped = rw and_false }
-  accepted_told (skips_release {g = d} l ne q) = record { taken = rw and-true; served = rw and_false; skipped = simp and-true }
+  accepted_told (serves_release {g = d} l ne q) = record { taken = rw and-true; served = simp and-true; skipped = rw and-false }
+  accepted_told (skips_release {g = d} l ne q) = record { taken = rw and-true; served = rw and-false; skipped = simp and-true }
   accepted_told (finishes l q) = record { taken = refl; served = refl; skipped = refl }
   accepted_told (waits l q) = record { taken = refl; served = refl; skipped = refl }
   accepted_told (wakes l q) = record { taken = refl; served = refl; skipped = refl }

@@ -1,6 +1,6 @@
 -- What the tests of 6 say: of what fits, and of what is "out of range or not in the table".
 use Rattle.std.specs.Prelude.{ℕ, ◌≤◌, ◌<◌, Bool, true, false, ◌&&◌, ◌⊎◌, ◌≡◌, refl, ltb, leb}
-use Rattle.std.proofs.Math.Bool.{and_false}
+use Rattle.std.proofs.Math.Bool.{and-false}
 use Rattle.std.proofs.Common.{inl, inr, arith, lt-ltb, le-ltb, ltb-true, ltb-false, le-leb, leb-true, leb-false}
 use Rattle.std.proofs.lemmas.Bool.{lt-leb}
 use Rattle.table.specs.Numbers.{top_priority, max_budget}
@@ -54,7 +54,7 @@ out_of_range x high e = go (one_fails (leb 1 x) (leb x high) e)
 pub not_range : (x high : ℕ) → NotOneTo high x → within 1 x high ≡ false
 unfolding within
 not_range x high (inl z) = rw (lt-leb 1 x (omega arith))
-not_range x high (inr l) = rw (lt-leb x high l) (and_false (leb 1 x))
+not_range x high (inr l) = rw (lt-leb x high l) (and-false (leb 1 x))
 
 pub gang_unfit : (p m : ℕ) → gang_fits p m ≡ false → NotOneTo top_priority p ⊎ (max_budget < m)
 unfolding gang_fits
@@ -70,7 +70,7 @@ unfit_priority p m o = rw (not_range p top_priority o)
 
 pub unfit_budget : (p m : ℕ) → max_budget < m → gang_fits p m ≡ false
 unfolding gang_fits
-unfit_budget p m l = rw (lt-leb m max_budget l) (and_false (within 1 p top_priority))
+unfit_budget p m l = rw (lt-leb m max_budget l) (and-false (within 1 p top_priority))
 
 pub thread_unfit : (g gangs c cores : ℕ) → thread_fits g gangs c cores ≡ false → (gangs ≤ g) ⊎ (cores ≤ c)
 unfolding thread_fits
@@ -86,4 +86,4 @@ unfit_gang g gangs c cores l = rw (le-ltb g gangs l)
 
 pub unfit_core : (g gangs c cores : ℕ) → cores ≤ c → thread_fits g gangs c cores ≡ false
 unfolding thread_fits
-unfit_core g gangs c cores l = rw (le-ltb c cores l) (and_false (ltb g gangs))
+unfit_core g gangs c cores l = rw (le-ltb c cores l) (and-false (ltb g gangs))

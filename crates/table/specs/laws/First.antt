@@ -1,6 +1,6 @@
 -- A core's first ready thread: that it is the first in the order of threads, and what it depends on; and `HighestReady` by that order.
 use Rattle.std.specs.Prelude.{ℕ, ◌<◌, ◌≤◌, true, ◌&&◌, ◌≡◌, List, get_or, set}
-use Rattle.std.proofs.Math.Bool.{and_false}
+use Rattle.std.proofs.Math.Bool.{and-false}
 use Rattle.std.proofs.Common.{sym, ◌∙◌, ⊎_elim, get_or-set_other, arith}
 use Rattle.std.proofs.Math.Path.{ap}
 use Rattle.std.proofs.Math.Dec.{eqb}
@@ -38,7 +38,7 @@ module _ (L : Lineup) (c t : ℕ) where
       go : Dec (core_of L.core t ≡ c)
           → (eqb (get_or L.state t 0) ready && eqb (core_of L.core t) c) ≡ (eqb (get_or state t 0) ready && eqb (core_of L.core t) c)
       go (yes e) = ap (λ (x : ℕ). eqb x ready && eqb (core_of L.core t) c) (h e)
-      go (no e) = rw (ne_eqb (core_of L.core t) c e, and_false (eqb (get_or L.state t 0) ready), and_false (eqb (get_or state t 0) ready))
+      go (no e) = rw (ne_eqb (core_of L.core t) c e, and-false (eqb (get_or L.state t 0) ready), and-false (eqb (get_or state t 0) ready))
 
 module _ (L : Lineup) (c : ℕ) where
   pub first_ready_is : L.threads ≤ 255 → IsFirst (standing L c) (before L) L.threads (first_ready L c)
