@@ -1,0 +1,27 @@
+-- `event_line` meets its contract: each field is put where the one before it ends, and so the line is joined of them.
+use native.Mathlib.Omega.{arith}
+use Rattle.lines.proofs.Joined.{joined}
+use Rattle.lines.proofs.event_line.Goals as goal
+
+pub put_holder-at-requires : goal.put_holder-at-requires
+put_holder-at-requires c =
+    omega (arith, owing, owing.before.before.before.before.before.before)
+
+pub bounds-out-at : goal.bounds-out-at
+bounds-out-at c =
+    omega (arith, owing, owing.before.before.before.before.before.before)
+
+pub overflow_add-result : goal.overflow_add-result
+overflow_add-result c = omega (arith, element-write-out c)
+
+pub returns : goal.returns
+returns c =
+    joined c.args.line (omega (arith, position.before))
+    c.put_decimal-at.ensures
+    c.put_decimal-at-2.ensures
+    c.put_decimal-at-3.ensures
+    c.put_decimal-at-4.ensures
+    c.put_decimal-at-5.ensures
+    c.put_hex-at.ensures
+    c.put_hex-at-2.ensures
+    c.put_holder-at.ensures

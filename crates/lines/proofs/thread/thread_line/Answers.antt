@@ -1,0 +1,13 @@
+-- `thread_line` meets its contract: each part is put where the one before it ends, and so the line is joined of them.
+use native.Mathlib.Omega.{arith}
+use Rattle.lines.proofs.Joined.{joined_thread}
+use Rattle.lines.proofs.thread.thread_line.Goals as goal
+
+pub returns : goal.returns
+returns c =
+    let a = c.args in
+    joined_thread a.position a.thread a.words.now a.which (omega (arith, position.before))
+    c.put_decimal-at.ensures
+    c.put_decimal-at-2.ensures
+    c.put_words-at.ensures
+    c.put_which-at.ensures

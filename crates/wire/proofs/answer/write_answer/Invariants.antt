@@ -1,0 +1,12 @@
+-- `wire::answer::write_answer` meets its contract. The loop's invariant: the first i bytes are written, the rest is as it was.
+use Prim.Native.Nat.{◌≤◌, ◌-◌}
+use mathlib.Core.Path.{◌≡◌}
+use lib.ListN.{length}
+use Rattle.wire.proofs.Over.{over}
+use Rattle.wire.proofs.answer.write_answer.Given as goal
+
+abbrev pub invariant-loop-i : goal.invariant-loop-i
+invariant-loop-i l = (l.i ≤ 18) × (length l.bytes ≡ 18) × (length l.out ≡ length l.initial.out) × (l.out ≡ over l.bytes l.initial.out l.i)
+
+abbrev pub decreases-loop-i : goal.decreases-loop-i
+decreases-loop-i l = 18 - l.i

@@ -1,0 +1,24 @@
+-- `wire::kinds::in_stream` meets its contract: each arm and test says which case of `in_stream` holds.
+use borrow.Author.Tests.{le-leb, lt-leb}
+use Rattle.wire.specs.Kinds.{in_stream}
+use Rattle.wire.proofs.kinds.in_stream.Goals as goal
+
+pub returns-then-kind-ge-CORES : goal.returns-then-kind-ge-CORES
+unfolding in_stream
+returns-then-kind-ge-CORES c = simp (c.enum_told-1.given.1, le-leb _ _ c.if-kind-ge-CORES.true)
+
+pub returns-else-kind-ge-CORES : goal.returns-else-kind-ge-CORES
+unfolding in_stream
+returns-else-kind-ge-CORES c = simp (c.enum_told-1.given.1, lt-leb _ _ c.if-kind-ge-CORES.false)
+
+pub returns-then-kind-ge-RELEASE : goal.returns-then-kind-ge-RELEASE
+unfolding in_stream
+returns-then-kind-ge-RELEASE c = simp (c.enum_told-in-Events-1.given.1, le-leb _ _ c.if-kind-ge-RELEASE.true)
+
+pub returns-else-kind-ge-RELEASE : goal.returns-else-kind-ge-RELEASE
+unfolding in_stream
+returns-else-kind-ge-RELEASE c = simp (c.enum_told-in-Events-1.given.1, lt-leb _ _ c.if-kind-ge-RELEASE.false)
+
+pub returns-in-Answers : goal.returns-in-Answers
+unfolding in_stream
+returns-in-Answers c = simp c.enum_told-in-Answers-1.given.1

@@ -1,0 +1,43 @@
+-- `wire::kinds::length_fits` meets its contract: it looks for the first pair of that kind and that length.
+use borrow.Author.Tests.{eq-eqb, ne_eqb}
+use Prim.Native.Nat.{◌-◌}
+use mathlib.Core.Path.{◌≡◌}
+use mathlib.Core.Bool.{true, false}
+use mathlib.Core.Logic.{⊎_elim}
+use native.Mathlib.Omega.{arith}
+use Rattle.wire.specs.Kinds.{is_pair, lengths}
+use Rattle.wire.proofs.Lengths.{pair_at, starts, finds, passes_by, finds_none}
+use Rattle.wire.proofs.kinds.length_fits.Goals as goal
+
+pub loop-i-init : goal.loop-i-init
+loop-i-init c = starts _ _ _ _
+
+pub offset_bounds-lengths-i : goal.offset_bounds-lengths-i
+offset_bounds-lengths-i c = omega arith
+
+pub bounds-lengths-i : goal.bounds-lengths-i
+bounds-lengths-i c = omega arith
+
+pub returns-then-p-len : goal.returns-then-p-len
+unfolding lengths
+returns-then-p-len c =
+    let a = c.args in
+    let l = c.loop-i in
+    let e : is_pair a.kind a.len (pair_at lengths l.i) ≡ true = rw (eq-eqb _ _ c.if-p-kind.true, eq-eqb _ _ c.if-p-len.true) in
+    finds (is_pair a.kind a.len) (λ p. true) false lengths l.i l.invariant c.loop-i-test.true e
+
+pub loop-i-preserved : goal.loop-i-preserved
+unfolding lengths
+loop-i-preserved c =
+    let a = c.args in
+    let l = c.loop-i in
+    let e : is_pair a.kind a.len (pair_at lengths l.i) ≡ false =
+    ⊎_elim
+    (λ w. rw (eq-eqb _ _ w.0.taken, ne_eqb _ _ w.2.left))
+    (λ w. rw (ne_eqb _ _ w.left))
+    c.if-p-kind.branch in
+    passes_by (is_pair a.kind a.len) (λ p. true) false lengths l.i l.invariant c.loop-i-test.true e
+
+pub returns : goal.returns
+unfolding lengths
+returns c = finds_none _ _ _ lengths c.loop-i.i c.loop-i.invariant c.loop-i-test.false
