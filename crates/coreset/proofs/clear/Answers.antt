@@ -1,8 +1,5 @@
 -- `coreset::clear` meets its contract: to take a core past the mask away changes nothing.
-use borrow.Author.Rules.{rules}
-use mathlib.Core.Path.{ap, sym, ◌∙◌}
-use Prim.Native.Nat.{ℕ, ◌-◌}
-use lib.Bits.{bit_and}
+use Rattle.std.proofs.Common.{rules, ap, sym, ◌∙◌, ℕ, ◌-◌, bit_and}
 use Rattle.coreset.specs.Set.{without_core}
 use Rattle.coreset.specs.laws.Bits.{and_put_at, shifted_one}
 use Rattle.coreset.specs.laws.Members.{has_beyond, without_absent}

@@ -1,6 +1,5 @@
 -- `coreset::first` meets its contract: the lowest core of a set that is not empty has as many zeros below it as its number says.
-use mathlib.Core.Path.{sym, ap, ◌∙◌}
-use native.Mathlib.Omega.{arith}
+use Rattle.std.proofs.Common.{sym, ap, ◌∙◌, arith}
 use lib.Count.{trailing_le}
 use Rattle.coreset.specs.Set.{lowest}
 use Rattle.coreset.specs.laws.Counting.{lowest_none, lowest_some}

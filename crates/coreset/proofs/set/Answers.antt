@@ -1,7 +1,5 @@
 -- `coreset::set` meets its contract.
-use mathlib.Core.Path.{ap, sym, ◌∙◌}
-use Prim.Native.Nat.{ℕ}
-use lib.Bits.{bit_or}
+use Rattle.std.proofs.Common.{ap, sym, ◌∙◌, ℕ, bit_or}
 use Rattle.coreset.specs.Set.{with_core}
 use Rattle.coreset.specs.laws.Bits.{or_put, shifted_one}
 use Rattle.coreset.specs.laws.Members.{within_below, within_beyond}

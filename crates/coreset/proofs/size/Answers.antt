@@ -1,8 +1,6 @@
 -- `coreset::size` meets its contract: the count is the number's count of ones, and no more than its 32 bits.
-use mathlib.Core.Path.{refl}
-use native.Mathlib.Omega.{arith}
+use Rattle.std.proofs.Common.{refl, arith, rules}
 use lib.Count.{ones-le}
-use borrow.Author.Rules.{rules}
 use Rattle.coreset.specs.Set.{count}
 use Rattle.coreset.proofs.size.Goals as goal
 

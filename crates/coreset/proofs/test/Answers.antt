@@ -1,9 +1,6 @@
 -- `coreset::test` meets its contract: a core past the mask has no bit in it.
-use borrow.Author.Rules.{rules}
-use mathlib.Core.Path.{ap, sym}
-use Prim.Native.Nat.{ℕ, ◌/◌, ◌^◌}
+use Rattle.std.proofs.Common.{rules, ap, sym, ℕ, ◌/◌, ◌^◌, eqb}
 use lib.Bits.{and_mask}
-use lib.Dec.{eqb}
 use Rattle.coreset.specs.Set.{has, bit}
 use Rattle.coreset.specs.laws.Members.{has_beyond}
 use Rattle.coreset.proofs.test.Goals as goal

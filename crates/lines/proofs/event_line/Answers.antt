@@ -1,5 +1,5 @@
 -- `event_line` meets its contract: each field is put where the one before it ends, and so the line is joined of them.
-use native.Mathlib.Omega.{arith}
+use Rattle.std.proofs.Common.{arith}
 use Rattle.lines.proofs.Joined.{joined}
 use Rattle.lines.proofs.event_line.Goals as goal
 

@@ -1,5 +1,5 @@
 -- `glyph` meets its contract: each arm of its test is an arm of glyph_of.
-use borrow.Author.Tests.{lt-ltb, le-ltb}
+use Rattle.std.proofs.Common.{lt-ltb, le-ltb}
 use Rattle.lines.proofs.glyph.Goals as goal
 
 pub returns-then-d-lt-TEN : goal.returns-then-d-lt-TEN

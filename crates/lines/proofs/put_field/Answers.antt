@@ -1,6 +1,5 @@
 -- `put_field` meets its contract: the digits, and then the space, are put together.
-use native.Mathlib.Omega.{arith}
-use borrow.Author.Rules.{rules}
+use Rattle.std.proofs.Common.{arith, rules}
 use Rattle.lines.specs.Chars.{space}
 use Rattle.lines.specs.laws.Put.{put_byte, put_put}
 use Rattle.lines.specs.Listing.{field_of}

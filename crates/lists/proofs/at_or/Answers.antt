@@ -1,5 +1,5 @@
 -- `at_or` meets its contract: within the list it does not matter what stands past its end.
-use mathlib.Core.Path.{sym}
+use Rattle.std.proofs.Common.{sym}
 use lib.ListN.{get_or-eq_default}
 use Rattle.lists.specs.laws.Lists.{get_d_within}
 use Rattle.lists.proofs.at_or.Goals as goal

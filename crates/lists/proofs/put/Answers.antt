@@ -1,5 +1,5 @@
 -- `put` meets its contract: past the end nothing is stored, and nothing changes.
-use mathlib.Core.Path.{sym}
+use Rattle.std.proofs.Common.{sym}
 use lib.Seq.{set_out}
 use Rattle.lists.proofs.put.Goals as goal
 

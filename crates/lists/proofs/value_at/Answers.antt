@@ -1,5 +1,5 @@
 -- `value_at` meets its contract: past its end a list has the value 0.
-use mathlib.Core.Path.{sym}
+use Rattle.std.proofs.Common.{sym}
 use lib.ListN.{get_or-eq_default}
 use Rattle.lists.proofs.value_at.Goals as goal
 

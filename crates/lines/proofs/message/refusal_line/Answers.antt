@@ -1,7 +1,6 @@
 -- `refusal_line` meets its contract: each part is put where the one before it ends, and so the line is joined of them.
-use native.Mathlib.Omega.{arith}
+use Rattle.std.proofs.Common.{arith, rules}
 use Rattle.lines.proofs.Joined.{joined_refusal}
-use borrow.Author.Rules.{rules}
 use Rattle.lines.proofs.message.refusal_line.Goals as goal
 
 slice-aggregate-put-words : tie.Need-slice-aggregate-put-words

@@ -1,5 +1,5 @@
 -- `words_line` meets its contract: the words, and then the end of the line.
-use native.Mathlib.Omega.{arith}
+use Rattle.std.proofs.Common.{arith}
 use Rattle.lines.proofs.Joined.{joined_words}
 use Rattle.lines.proofs.message.words_line.Goals as goal
 

@@ -1,7 +1,5 @@
 -- `put_words` meets its contract. The loop's invariant: the first i bytes of the words are put.
-use Prim.Native.Nat.{◌-◌, ◌≤◌}
-use mathlib.Core.Path.{◌≡◌}
-use lib.ListN.{length}
+use Rattle.std.proofs.Common.{◌-◌, ◌≤◌, ◌≡◌, length}
 use Rattle.lines.proofs.Words.{Putting}
 use Rattle.lines.proofs.thread.put_words.Given as goal
 

@@ -1,5 +1,5 @@
 -- `thread_line` meets its contract: each part is put where the one before it ends, and so the line is joined of them.
-use native.Mathlib.Omega.{arith}
+use Rattle.std.proofs.Common.{arith}
 use Rattle.lines.proofs.Joined.{joined_thread}
 use Rattle.lines.proofs.thread.thread_line.Goals as goal
 

@@ -1,6 +1,5 @@
 -- `words_size` meets its contract: the shorter of the words and the places for them.
-use native.Mathlib.Omega.{arith}
-use lib.ListN.{length-take}
+use Rattle.std.proofs.Common.{arith, length-take}
 use Rattle.lines.proofs.thread.words_size.Goals as goal
 
 pub returns-then-words-most : goal.returns-then-words-most

@@ -1,10 +1,6 @@
 -- `wire::answer::write_answer` meets its contract. The loop's invariant: the first i bytes are written, the rest is as it was.
-use borrow.Author.Rules.{rules}
-use borrow.Author.Tests.{lt-leb, le-leb}
-use Prim.Native.Nat.{◌≤◌, ◌<◌, ◌-◌}
-use mathlib.Core.Path.{◌≡◌, refl, ap, ◌∙◌}
-use native.Mathlib.Omega.{arith}
-use lib.ListN.{length, length-set}
+use Rattle.std.proofs.Common.{rules, le-leb, ◌≤◌, ◌<◌, ◌-◌, ◌≡◌, refl, ap, ◌∙◌, arith, length, length-set}
+use borrow.Author.Tests.{lt-leb}
 use Rattle.wire.specs.Answer.{answer_bytes, put_over, written_in}
 use Rattle.wire.proofs.Over.{over_more, over_all}
 use Rattle.wire.proofs.answer.write_answer.Goals as goal

@@ -1,7 +1,5 @@
 -- `wire::answer::write_answer` meets its contract. The loop's invariant: the first i bytes are written, the rest is as it was.
-use Prim.Native.Nat.{◌≤◌, ◌-◌}
-use mathlib.Core.Path.{◌≡◌}
-use lib.ListN.{length}
+use Rattle.std.proofs.Common.{◌≤◌, ◌-◌, ◌≡◌, length}
 use Rattle.wire.proofs.Over.{over}
 use Rattle.wire.proofs.answer.write_answer.Given as goal
 

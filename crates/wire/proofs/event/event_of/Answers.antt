@@ -1,6 +1,5 @@
 -- `wire::event::event_of` meets its contract: each arm of the match says which kind it is.
-use borrow.Author.Tests.{ne_eqb}
-use mathlib.Core.Path.{ap, ap₂}
+use Rattle.std.proofs.Common.{ne_eqb, ap, ap₂}
 use Rattle.wire.specs.declared.event.Event.TheVariants.{Release, Finish, Wait, Wake, Serve, Traffic}
 use Rattle.wire.specs.Event.{event_of}
 use Rattle.wire.proofs.event.event_of.Goals as goal

@@ -1,5 +1,5 @@
 -- `wire::event::next_event` meets its contract: it is the reader of that stream, at each case of the record question.
-use mathlib.Core.Path.{refl, sym, ap, ◌∙◌}
+use Rattle.std.proofs.Common.{refl, sym, ap, ◌∙◌}
 use Rattle.wire.specs.declared.kinds.Stream.TheVariants as stream
 use Rattle.wire.specs.declared.event.Event.{Event}
 use Rattle.wire.specs.declared.event.NextEvent.TheVariants as found

@@ -1,5 +1,6 @@
 -- `wire::kinds::in_stream` meets its contract: each arm and test says which case of `in_stream` holds.
-use borrow.Author.Tests.{le-leb, lt-leb}
+use Rattle.std.proofs.Common.{le-leb}
+use borrow.Author.Tests.{lt-leb}
 use Rattle.wire.specs.Kinds.{in_stream}
 use Rattle.wire.proofs.kinds.in_stream.Goals as goal
 

@@ -1,10 +1,5 @@
 -- `wire::kinds::length_fits` meets its contract: it looks for the first pair of that kind and that length.
-use borrow.Author.Tests.{eq-eqb, ne_eqb}
-use Prim.Native.Nat.{◌-◌}
-use mathlib.Core.Path.{◌≡◌}
-use mathlib.Core.Bool.{true, false}
-use mathlib.Core.Logic.{⊎_elim}
-use native.Mathlib.Omega.{arith}
+use Rattle.std.proofs.Common.{eq-eqb, ne_eqb, ◌-◌, ◌≡◌, true, false, ⊎_elim, arith}
 use Rattle.wire.specs.Kinds.{is_pair, lengths}
 use Rattle.wire.proofs.Lengths.{pair_at, starts, finds, passes_by, finds_none}
 use Rattle.wire.proofs.kinds.length_fits.Goals as goal

@@ -1,6 +1,5 @@
 -- `wire::kinds::length_fits` meets its contract: it looks for the first pair of that kind and that length.
-use Prim.Native.Nat.{◌-◌}
-use mathlib.Core.Bool.{true, false}
+use Rattle.std.proofs.Common.{◌-◌, true, false}
 use Rattle.wire.specs.Kinds.{is_pair, lengths}
 use Rattle.wire.proofs.Lengths.{Decides}
 use Rattle.wire.proofs.kinds.length_fits.Given as goal

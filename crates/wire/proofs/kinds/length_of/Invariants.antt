@@ -1,5 +1,5 @@
 -- `wire::kinds::length_of` meets its contract: it looks for the first pair of that kind.
-use Prim.Native.Nat.{◌-◌}
+use Rattle.std.proofs.Common.{◌-◌}
 use Rattle.wire.specs.Kinds.{is_of_kind, lengths}
 use Rattle.wire.proofs.Lengths.{Decides}
 use Rattle.wire.proofs.kinds.length_of.Given as goal

@@ -1,6 +1,6 @@
 -- `wire::number::byte_at` meets its contract: past the end the list gives 0.
+use Rattle.std.proofs.Common.{sym}
 use lib.ListN.{get_or-eq_default}
-use mathlib.Core.Path.{sym}
 use Rattle.wire.proofs.number.byte_at.Goals as goal
 
 pub returns-else-at-s : goal.returns-else-at-s

@@ -1,5 +1,5 @@
 -- `wire::number::u16_at` meets its contract: past the end both bytes are 0.
-use mathlib.Core.Path.{sym}
+use Rattle.std.proofs.Common.{sym}
 use Rattle.wire.proofs.Beyond.{le16_beyond}
 use Rattle.wire.proofs.number.u16_at.Goals as goal
 

@@ -1,6 +1,5 @@
 -- `wire::number::u32_at` meets its contract: past the end all four bytes are 0.
-use Prim.Native.Nat.{◌+◌}
-use native.Mathlib.Omega.{arith}
+use Rattle.std.proofs.Common.{◌+◌, arith}
 use Rattle.wire.proofs.Beyond.{le16_beyond}
 use Rattle.wire.proofs.number.u32_at.Goals as goal
 

@@ -1,5 +1,5 @@
 -- `wire::record::payload_at` meets its contract: the payload is that of the record that the question finds.
-use mathlib.Core.Path.{ap, ◌∙◌}
+use Rattle.std.proofs.Common.{ap, ◌∙◌}
 use Rattle.wire.specs.declared.record.Seen.{Seen}
 use Rattle.wire.specs.Record.{payload_of}
 use Rattle.wire.specs.Question.{seen_at}

@@ -1,6 +1,5 @@
 -- `wire::record::payload_of` meets its contract: an accepted record lies within the bytes.
-use mathlib.Core.Path.{sym, ap}
-use native.Mathlib.Omega.{arith}
+use Rattle.std.proofs.Common.{sym, ap, arith}
 use Rattle.wire.specs.declared.record.Seen.{Seen}
 use Rattle.wire.specs.Record.{payload_of}
 use Rattle.wire.specs.Question.{WholeRecord}

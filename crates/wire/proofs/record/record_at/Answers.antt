@@ -1,8 +1,5 @@
 -- `wire::record::record_at` meets its contract: each way through its tests is a case of the record question.
-use Prim.Native.Nat.{ℕ, ◌+◌}
-use native.Mathlib.Omega.{arith}
-use mathlib.Core.Path.{◌≡◌, sym, ap, ap₂, ◌∙◌}
-use mathlib.Core.Bool.{Bool}
+use Rattle.std.proofs.Common.{ℕ, ◌+◌, arith, ◌≡◌, sym, ap, ap₂, ◌∙◌, Bool}
 use Rattle.wire.specs.declared.record.Seen.TheVariants.{Record}
 use Rattle.wire.specs.Kinds.{in_stream, fits_in, lengths}
 use Rattle.wire.specs.Record.{uncounted, length_at, kind_at}

@@ -1,5 +1,5 @@
 -- `wire::record::record_told` meets its contract: each arm of the match says which case of `record_told` holds.
-use mathlib.Core.Path.{sym, ap}
+use Rattle.std.proofs.Common.{sym, ap}
 use Rattle.wire.specs.Record.{record_told}
 use Rattle.wire.proofs.record.record_told.Goals as goal
 

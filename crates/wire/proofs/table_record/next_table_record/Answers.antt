@@ -1,5 +1,5 @@
 -- `wire::table_record::next_table_record` meets its contract: it is the reader of that stream, at each case of the record question.
-use mathlib.Core.Path.{refl, sym, ap, ◌∙◌}
+use Rattle.std.proofs.Common.{refl, sym, ap, ◌∙◌}
 use Rattle.wire.specs.declared.kinds.Stream.TheVariants as stream
 use Rattle.wire.specs.declared.table_record.TableRecord.{TableRecord}
 use Rattle.wire.specs.declared.table_record.NextTableRecord.TheVariants as found

@@ -1,6 +1,6 @@
 -- `wire::table_record::table_record_of` meets its contract: each test says which kind of record it is.
-use borrow.Author.Tests.{eq-eqb, ne_eqb, le-leb, lt-leb}
-use mathlib.Core.Path.{ap, ap₂}
+use Rattle.std.proofs.Common.{eq-eqb, ne_eqb, le-leb, ap, ap₂}
+use borrow.Author.Tests.{lt-leb}
 use Rattle.wire.specs.declared.table_record.TableRecord.TheVariants.{Cores, Gang, ShortGang, Thread}
 use Rattle.wire.specs.Table.{table_record_of}
 use Rattle.wire.proofs.table_record.table_record_of.Goals as goal
