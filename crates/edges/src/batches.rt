@@ -3,6 +3,7 @@ mod answers;
 
 use crate::MOST_BYTES;
 use crate::text::place_of;
+use std::io;
 use system::System;
 
 // Room for more answers than a case has events.
@@ -21,11 +22,17 @@ fn started(records: &[u8]) -> System {
 }
 
 // A batch of a case's events into the output given.
-fn run(name: &[u8], system: System, events: &[u8], out: &mut [u8]) {
+fn run(
+    rt: &impl Print,
+    name: &[u8],
+    system: System,
+    events: &[u8],
+    out: &mut [u8],
+) -> io::Result<()> {
     let mut bytes = [0u8; MOST_BYTES];
     let n = crate::numbers::bytes(events, &mut bytes);
     let done = batch::batch(system, &bytes[..n], out);
-    answers::show(name, done, out);
+    answers::show(rt, name, done, out)
 }
 
 // The gang has taken 4,294,967,294 numbers, which no bytes lead to: it takes one more, and then none.
@@ -56,17 +63,23 @@ fn system_of(does: u8, records: &[u8]) -> System {
 }
 
 // The system and the events of a case, with the room that it gives.
-fn run_in(name: &[u8], does: u8, records: &[u8], out: &mut [u8]) {
+fn run_in(
+    rt: &impl Print,
+    name: &[u8],
+    does: u8,
+    records: &[u8],
+    out: &mut [u8],
+) -> io::Result<()> {
     let system = system_of(does, records);
     let slash = place_of(records, b'/');
-    run(name, system, &records[slash..], out);
+    run(rt, name, system, &records[slash..], out)
 }
 
 // One case. What is done is said by its first letter.
-pub(crate) fn case(name: &[u8], does: u8, what: &[u8]) {
+pub(crate) fn case(rt: &impl Print, name: &[u8], does: u8, what: &[u8]) -> io::Result<()> {
     let bar = place_of(what, b'|');
     let given = crate::numbers::number(&what[..bar], 0) % MOST_GIVEN;
     let mut out = [0u8; ROOM];
-    let room = io::count(given as isize, &out);
-    run_in(name, does, &what[bar..], &mut out[..room]);
+    let room = (given as usize).min(ROOM);
+    run_in(rt, name, does, &what[bar..], &mut out[..room])
 }

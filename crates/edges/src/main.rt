@@ -1,6 +1,8 @@
 // Runs document 01's edges and slips: tables through the reader, events through a batch, and what calls alone can show of systems. The
 // file stdin has a case to a line: its name, what is done, and the numbers for it. What comes back is compared with the stored output,
 // which was checked by hand.
+#![tactic(auto)]
+
 mod batches;
 mod numbers;
 mod show;
@@ -8,7 +10,7 @@ mod systems;
 mod tables;
 mod text;
 
-const STDIN: i32 = 0;
+use std::io;
 
 // More than the cases have.
 const MOST_TEXT: usize = 32768;
@@ -17,33 +19,34 @@ const MOST_TEXT: usize = 32768;
 const MOST_BYTES: usize = 800;
 
 // Does what the letter says. There is none where a line has no colon: it is a comment.
-fn done(name: &[u8], what: &[u8]) {
+fn done(rt: &impl Print, name: &[u8], what: &[u8]) -> io::Result<()> {
     let does = text::letter(what);
     match does {
-        0 => {}
-        b't' => tables::case(name, what),
-        b's' => systems::case(name, what),
-        _ => batches::case(name, does, what),
+        0 => Ok(()),
+        b't' => tables::case(rt, name, what),
+        b's' => systems::case(rt, name, what),
+        _ => batches::case(rt, name, does, what),
     }
 }
 
 // One case: its name, and from the colon on what is done.
-fn case(line: &[u8]) {
+fn case(rt: &impl Print, line: &[u8]) -> io::Result<()> {
     let colon = text::place_of(line, b':');
-    done(&line[..colon], &line[colon..]);
+    done(rt, &line[..colon], &line[colon..])
 }
 
-fn each_line(text: &[u8]) {
+fn each_line(rt: &impl Print, text: &[u8]) -> io::Result<()> {
     let mut at: usize = 0;
     while at < text.len() {
         let end = at + text::place_of(&text[at..], b'\n');
-        case(&text[at..end]);
+        case(rt, &text[at..end])?;
         at = end + 1;
     }
+    Ok(())
 }
 
-fn main() {
+fn main(rt: HostRuntime) -> io::Result<()> {
     let mut text = [0u8; MOST_TEXT];
-    let n = io::read_full(STDIN, &mut text);
-    each_line(&text[..n]);
+    let n = input::read_full(&mut rt.reader(), &mut text)?;
+    each_line(&rt, &text[..n])
 }

@@ -1,6 +1,6 @@
 // The numbers of a text.
 ghost use Rattle.std.specs.Prelude.{◌≤◌, length, ◌≡◌};
-ghost use Rattle.io.specs.Counts.{IsPrefixLen};
+ghost use Rattle.edges.specs.Counts.{IsPrefixLen};
 
 // Numbers above this take no further digit.
 const MOST: u64 = 1000000000000;

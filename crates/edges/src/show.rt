@@ -1,26 +1,25 @@
 // Printing a case's name and what came back.
-const STDOUT: i32 = 1;
+use std::io;
+use std::io::Write;
 
-pub(crate) fn words(text: &[u8]) {
-    io::write_all(STDOUT, text);
+pub(crate) fn words(rt: &impl Print, text: &[u8]) -> io::Result<()> {
+    io::writer(rt).write_all(text)
 }
 
-pub(crate) fn name(name: &[u8]) {
-    words(name);
-    words(b":");
+pub(crate) fn name(rt: &impl Print, name: &[u8]) -> io::Result<()> {
+    words(rt, name)?;
+    words(rt, b":")
 }
 
-pub(crate) fn value(n: u64) {
-    words(b" ");
-    io::print_decimal(STDOUT, n);
+pub(crate) fn value(rt: &impl Print, n: u64) -> io::Result<()> {
+    print!(rt; " {n}")
 }
 
 // A set of cores, in eight digits.
-pub(crate) fn mask(cores: u32) {
-    words(b" ");
-    io::print_hex(STDOUT, cores as u64, 8);
+pub(crate) fn mask(rt: &impl Print, cores: u32) -> io::Result<()> {
+    print!(rt; " {cores:08x}")
 }
 
-pub(crate) fn end_line() {
-    words(b"\n");
+pub(crate) fn end_line(rt: &impl Print) -> io::Result<()> {
+    words(rt, b"\n")
 }

@@ -4,13 +4,14 @@ mod asked;
 mod changed;
 
 use crate::text::{letter, place_of};
+use std::io;
 
 // What is done is said by the first letter after the comma.
-pub(crate) fn case(name: &[u8], what: &[u8]) {
+pub(crate) fn case(rt: &impl Print, name: &[u8], what: &[u8]) -> io::Result<()> {
     let comma = place_of(what, b',');
     let does = letter(&what[comma..]);
     match does {
-        b'a' | b'q' => asked::case(name, does, what),
-        _ => changed::case(name, does, what),
+        b'a' | b'q' => asked::case(rt, name, does, what),
+        _ => changed::case(rt, name, does, what),
     }
 }

@@ -1,17 +1,18 @@
 // Tables through the reader. A case has the table's records, and prints the refusal number and the place.
 use crate::MOST_BYTES;
 use crate::show::value;
+use std::io;
 
-fn read(name: &[u8], bytes: &[u8]) {
+fn read(rt: &impl Print, name: &[u8], bytes: &[u8]) -> io::Result<()> {
     let read = reading::read_table(bytes);
-    crate::show::name(name);
-    value(read.number as u64);
-    value(read.place as u64);
-    crate::show::end_line();
+    crate::show::name(rt, name)?;
+    value(rt, read.number as u64)?;
+    value(rt, read.place as u64)?;
+    crate::show::end_line(rt)
 }
 
-pub(crate) fn case(name: &[u8], records: &[u8]) {
+pub(crate) fn case(rt: &impl Print, name: &[u8], records: &[u8]) -> io::Result<()> {
     let mut bytes = [0u8; MOST_BYTES];
     let n = crate::numbers::bytes(records, &mut bytes);
-    read(name, &bytes[..n]);
+    read(rt, name, &bytes[..n])
 }

@@ -1,5 +1,5 @@
 // The text of a case: a name, a colon, then words and numbers. Words are for the reader; only a letter and the numbers count.
-ghost use Rattle.io.specs.Counts.{IsPrefixLen};
+ghost use Rattle.edges.specs.Counts.{IsPrefixLen};
 
 // From a mark, over a blank, to the letter.
 const LETTER: usize = 2;

@@ -1,6 +1,9 @@
 // Document 01, "The listing": prints a line for each event of standard input, or why not.
-use recording::Shows;
+#![tactic(auto)]
 
-fn main() {
-    recording::run(Shows::Line);
+use recording::Shows;
+use std::io;
+
+fn main(rt: HostRuntime) -> io::Result<()> {
+    recording::run(&rt, Shows::Line)
 }

@@ -1,6 +1,9 @@
 // Document 02, K3, "Why isn't my thread running?": prints a line for each thread after each event of standard input, or why not.
-use recording::Shows;
+#![tactic(auto)]
 
-fn main() {
-    recording::run(Shows::Reasons);
+use recording::Shows;
+use std::io;
+
+fn main(rt: HostRuntime) -> io::Result<()> {
+    recording::run(&rt, Shows::Reasons)
 }

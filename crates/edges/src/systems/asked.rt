@@ -1,6 +1,7 @@
 // Events and questions on three systems: the empty one, one whose gang 0 has one release number left, and that gang's with none left.
 use crate::numbers::byte;
 use crate::show::{end_line, value};
+use std::io;
 use system::{Reply, System, Told};
 use wire::kinds::{FINISH, RELEASE, SERVE, TRAFFIC, WAIT, WAKE};
 
@@ -26,58 +27,58 @@ fn system_of(n: u8) -> System {
 }
 
 // An event's refusal, value and number.
-fn show_reply(name: &[u8], reply: Reply) {
+fn show_reply(rt: &impl Print, name: &[u8], reply: Reply) -> io::Result<()> {
     let answer = reply.answer;
-    crate::show::name(name);
-    value(wire::answer::answer_refusal(answer) as u64);
-    value(wire::answer::answer_value(answer) as u64);
-    value(wire::answer::answer_number(answer) as u64);
-    end_line();
+    crate::show::name(rt, name)?;
+    value(rt, wire::answer::answer_refusal(answer) as u64)?;
+    value(rt, wire::answer::answer_value(answer) as u64)?;
+    value(rt, wire::answer::answer_number(answer) as u64)?;
+    end_line(rt)
 }
 
 // A question's refusal and value.
-fn show_told(name: &[u8], told: Told) {
+fn show_told(rt: &impl Print, name: &[u8], told: Told) -> io::Result<()> {
     let finding = told.finding;
-    crate::show::name(name);
-    value(system::finding_refusal(finding) as u64);
-    value(system::finding_value(finding) as u64);
-    end_line();
+    crate::show::name(rt, name)?;
+    value(rt, system::finding_refusal(finding) as u64)?;
+    value(rt, system::finding_value(finding) as u64)?;
+    end_line(rt)
 }
 
 // An event by its kind, on gang, thread or core 0.
-fn event_on(name: &[u8], s: System, kind: u16) {
+fn event_on(rt: &impl Print, name: &[u8], s: System, kind: u16) -> io::Result<()> {
     match kind {
-        RELEASE => show_reply(name, s.release(0)),
-        FINISH => show_reply(name, s.finish(0)),
-        WAIT => show_reply(name, s.wait(0)),
-        WAKE => show_reply(name, s.wake(0)),
-        SERVE => show_reply(name, s.serve(0)),
-        TRAFFIC => show_reply(name, s.traffic(0, 0)),
-        _ => show_reply(name, s.tick()),
+        RELEASE => show_reply(rt, name, s.release(0)),
+        FINISH => show_reply(rt, name, s.finish(0)),
+        WAIT => show_reply(rt, name, s.wait(0)),
+        WAKE => show_reply(rt, name, s.wake(0)),
+        SERVE => show_reply(rt, name, s.serve(0)),
+        TRAFFIC => show_reply(rt, name, s.traffic(0, 0)),
+        _ => show_reply(rt, name, s.tick()),
     }
 }
 
 // A question in the order of document 01, about gang or core 0.
-fn question_of(name: &[u8], s: System, question: u8) {
+fn question_of(rt: &impl Print, name: &[u8], s: System, question: u8) -> io::Result<()> {
     match question {
-        1 => show_told(name, s.occupant(0)),
-        2 => show_told(name, s.stopped(0)),
-        3 => show_told(name, s.release_number(0)),
-        4 => show_told(name, s.served(0)),
-        5 => show_told(name, s.skipped(0)),
-        6 => show_told(name, s.job_number(0)),
-        7 => show_told(name, s.lowest_owing()),
-        _ => show_told(name, s.owing_count()),
+        1 => show_told(rt, name, s.occupant(0)),
+        2 => show_told(rt, name, s.stopped(0)),
+        3 => show_told(rt, name, s.release_number(0)),
+        4 => show_told(rt, name, s.served(0)),
+        5 => show_told(rt, name, s.skipped(0)),
+        6 => show_told(rt, name, s.job_number(0)),
+        7 => show_told(rt, name, s.lowest_owing()),
+        _ => show_told(rt, name, s.owing_count()),
     }
 }
 
 // An event is applied, a question asked: the system's number, and then its own.
-pub(crate) fn case(name: &[u8], does: u8, what: &[u8]) {
+pub(crate) fn case(rt: &impl Print, name: &[u8], does: u8, what: &[u8]) -> io::Result<()> {
     let s = system_of(byte(what, 0));
     let n = byte(what, 1);
     if does == b'a' {
-        event_on(name, s, n as u16);
+        event_on(rt, name, s, n as u16)
     } else {
-        question_of(name, s, n);
+        question_of(rt, name, s, n)
     }
 }

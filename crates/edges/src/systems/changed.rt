@@ -4,6 +4,7 @@ use crate::numbers::{byte, number, word};
 use crate::show::value;
 use ledger::Ledger;
 use lock::Lock;
+use std::io;
 use system::System;
 use table::{Sizes, Table};
 
@@ -149,10 +150,10 @@ fn counted(s: System) -> u8 {
     system::finding_refusal(finding)
 }
 
-pub(crate) fn case(name: &[u8], does: u8, what: &[u8]) {
+pub(crate) fn case(rt: &impl Print, name: &[u8], does: u8, what: &[u8]) -> io::Result<()> {
     let s = system_of(does, what);
-    crate::show::name(name);
-    value(ticked(s) as u64);
-    value(counted(s) as u64);
-    crate::show::end_line();
+    crate::show::name(rt, name)?;
+    value(rt, ticked(s) as u64)?;
+    value(rt, counted(s) as u64)?;
+    crate::show::end_line(rt)
 }
