@@ -1,4 +1,7 @@
 // Document 01, "The listing": the text of the line that one event prints; of the line that one thread prints; and of the message lines.
+
+#![tactic(auto)]
+
 ghost use Rattle.std.specs.Prelude.{◌≡◌, ◌+◌, ◌<◌, ◌≤◌, length};
 ghost use Rattle.lines.specs.Chars.{sixteen, places8, hex_places};
 ghost use Rattle.lines.specs.Number.{glyph_of, numeral};

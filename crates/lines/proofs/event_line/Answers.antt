@@ -3,20 +3,9 @@ use Rattle.std.proofs.Common.{arith}
 use Rattle.lines.proofs.Joined.{joined}
 use Rattle.lines.proofs.event_line.Goals as goal
 
-pub put_holder-at-requires : goal.put_holder-at-requires
-put_holder-at-requires c =
-    omega (arith, owing, owing.before.before.before.before.before.before)
-
-pub bounds-out-at : goal.bounds-out-at
-bounds-out-at c =
-    omega (arith, owing, owing.before.before.before.before.before.before)
-
-pub overflow_add-result : goal.overflow_add-result
-overflow_add-result c = omega (arith, element-write-out c)
-
 pub returns : goal.returns
 returns c =
-    joined c.args.line (omega (arith, position.before))
+    joined c.args.line (omega arith)
     c.put_decimal-at.ensures
     c.put_decimal-at-2.ensures
     c.put_decimal-at-3.ensures

@@ -9,4 +9,4 @@ pub returns : goal.returns
 unfolding field_of
 returns c =
     let p = c.put_number-end in
-    put_put p.ensures (put_byte p.new.0 p.result space (search rules)) (omega arith)
+    put_put p.ensures (put_byte p.new.out p.result space (search rules)) (omega arith)

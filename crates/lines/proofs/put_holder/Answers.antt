@@ -1,5 +1,5 @@
 -- `put_holder` meets its contract: the arm for no holder puts the dash, and the other puts the holder's digits.
-use Rattle.std.proofs.Common.{◌∷◌, arith}
+use Rattle.std.proofs.Common.{[], ◌∷◌, arith}
 use Rattle.lines.specs.Chars.{dash}
 use Rattle.lines.specs.laws.Put.{put_byte}
 use Rattle.lines.proofs.Some.{put_other, put_some}

@@ -1,15 +1,12 @@
 -- `refusal_line` meets its contract: each part is put where the one before it ends, and so the line is joined of them.
-use Rattle.std.proofs.Common.{arith, rules}
+use Rattle.std.proofs.Common.{arith}
 use Rattle.lines.proofs.Joined.{joined_refusal}
 use Rattle.lines.proofs.message.refusal_line.Goals as goal
-
-slice-aggregate-put-words : tie.Need-slice-aggregate-put-words
-slice-aggregate-put-words c = search rules
 
 pub returns : goal.returns
 returns c =
     let a = c.args in
-    joined_refusal a.words.now a.number a.place (omega (arith, words.before))
+    joined_refusal a.words.now a.number a.place (omega arith)
     c.put_words-at.ensures
     c.put_number-at.ensures
     c.put_words-at-2.ensures

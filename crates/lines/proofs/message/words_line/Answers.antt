@@ -6,4 +6,4 @@ use Rattle.lines.proofs.message.words_line.Goals as goal
 pub returns : goal.returns
 returns c =
     let a = c.args in
-    joined_words a.words.now (omega (arith, c.before)) c.put_words-at.ensures
+    joined_words a.words.now (omega arith) c.put_words-at.ensures

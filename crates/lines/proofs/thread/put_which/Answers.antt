@@ -1,5 +1,5 @@
 -- `put_which` meets its contract: nothing for none, and else the digits.
-use Rattle.std.proofs.Common.{arith}
+use Rattle.std.proofs.Common.{[], arith}
 use Rattle.lines.specs.laws.Put.{put_none}
 use Rattle.lines.proofs.Some.{put_other, put_some}
 use Rattle.lines.proofs.thread.put_which.Goals as goal

@@ -1,5 +1,5 @@
 -- `put_words` meets its contract. The loop's invariant: the first i bytes of the words are put.
-use Rattle.std.proofs.Common.{◌-◌, refl, arith, length-take, length-set}
+use Rattle.std.proofs.Common.{refl, arith, length-take, length-set}
 use Rattle.lines.proofs.Words.{words_none, words_more, words_all}
 use Rattle.lines.proofs.thread.put_words.Goals as goal
 

@@ -6,7 +6,7 @@ use Rattle.lines.proofs.thread.thread_line.Goals as goal
 pub returns : goal.returns
 returns c =
     let a = c.args in
-    joined_thread a.position a.thread a.words.now a.which (omega (arith, position.before))
+    joined_thread a.position a.thread a.words.now a.which (omega arith)
     c.put_decimal-at.ensures
     c.put_decimal-at-2.ensures
     c.put_words-at.ensures
