@@ -1,4 +1,6 @@
 // Document 01, "Records": the bytes of tables, events and answers, apart from what they mean to a system.
+#![tactic(auto)]
+
 pub mod answer;
 pub mod event;
 pub mod kinds;

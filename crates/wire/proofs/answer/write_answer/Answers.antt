@@ -1,5 +1,5 @@
 -- `wire::answer::write_answer` meets its contract. The loop's invariant: the first i bytes are written, the rest is as it was.
-use Rattle.std.proofs.Common.{rules, le-leb, ◌≤◌, ◌<◌, ◌-◌, ◌≡◌, refl, ap, ◌∙◌, arith, length, length-set}
+use Rattle.std.proofs.Common.{rules, le-leb, ◌≤◌, ◌<◌, ◌≡◌, refl, ap, ◌∙◌, arith, length, length-set}
 use borrow.Author.Tests.{lt-leb}
 use Rattle.wire.specs.Answer.{answer_bytes, put_over, written_in}
 use Rattle.wire.proofs.Over.{over_more, over_all}
@@ -9,7 +9,7 @@ pub returns-then-out-lt-ANSWER_SIZE : goal.returns-then-out-lt-ANSWER_SIZE
 unfolding put_over answer_bytes written_in
 returns-then-out-lt-ANSWER_SIZE c =
     let h : length c.args.out.now < 18 = omega arith in
-    (simp (lt-leb _ _ h), simp (lt-leb _ _ h))
+    record { value = simp (lt-leb _ _ h); out_after = simp (lt-leb _ _ h) }
 
 pub loop-i-init : goal.loop-i-init
 unfolding answer_bytes
@@ -38,4 +38,7 @@ returns c =
     let b = c.answer_bytes-bytes in
     let e : l.i ≡ length b.result = omega arith in
     let h : length b.result ≤ length o = omega arith in
-    (simp (le-leb 18 (length o) (omega arith)), l.invariant.3 ∙ (rw (e, ← b.ensures) (over_all b.result o h)))
+    record {
+      value = simp (le-leb 18 (length o) (omega arith));
+      out_after = l.invariant.3 ∙ (rw (e, ← b.ensures) (over_all b.result o h));
+    }

@@ -11,18 +11,17 @@ use Rattle.wire.proofs.event.next_event.Goals as goal
 pub payload_of-requires : goal.payload_of-requires
 payload_of-requires c =
     record_whole stream.Events c.args.s.now 0
-    (sym c.record_at-seen.ensures ∙ c.seen-1.given.1)
+    (sym c.record_at-seen.ensures ∙ c.in-Record.is)
 
 pub returns-in-Record : goal.returns-in-Record
 unfolding next_event
 returns-in-Record c =
-    let k = c.seen-1.given in
-    ap (λ (v : Event). found.Event v k.0.1.0) c.event_of.ensures
+    ap (λ (v : Event). found.Event v c.in-Record.next) c.event_of.ensures
     ∙ reader event_found found.Refused stream.Events c.args.s.now
-    (sym k.1 ∙ c.record_at-seen.ensures) c.payload_of.ensures
+    (sym c.in-Record.is ∙ c.record_at-seen.ensures) c.payload_of.ensures
 
 pub returns-in-Refused : goal.returns-in-Refused
 unfolding next_event
 returns-in-Refused c =
     reader event_found found.Refused stream.Events c.args.s.now
-    (sym c.seen-in-Refused-1.given.1 ∙ c.record_at-seen.ensures) refl
+    (sym c.in-Refused.is ∙ c.record_at-seen.ensures) refl

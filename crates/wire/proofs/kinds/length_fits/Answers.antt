@@ -1,8 +1,9 @@
 -- `wire::kinds::length_fits` meets its contract: it looks for the first pair of that kind and that length.
-use Rattle.std.proofs.Common.{eq-eqb, ne_eqb, ◌-◌, ◌≡◌, true, false, ⊎_elim, arith}
+use Rattle.std.proofs.Common.{eq-eqb, ne_eqb, ◌≡◌, true, false, arith}
 use Rattle.wire.specs.Kinds.{is_pair, lengths}
 use Rattle.wire.proofs.Lengths.{pair_at, starts, finds, passes_by, finds_none}
 use Rattle.wire.proofs.kinds.length_fits.Goals as goal
+use Rattle.wire.proofs.kinds.length_fits.Goals.{then-p-kind+else-p-len, else-p-kind}
 
 pub loop-i-init : goal.loop-i-init
 loop-i-init c = starts _ _ _ _
@@ -27,10 +28,10 @@ loop-i-preserved c =
     let a = c.args in
     let l = c.loop-i in
     let e : is_pair a.kind a.len (pair_at lengths l.i) ≡ false =
-    ⊎_elim
-    (λ w. rw (eq-eqb _ _ w.0.taken, ne_eqb _ _ w.2.left))
-    (λ w. rw (ne_eqb _ _ w.left))
-    c.if-p-kind.branch in
+    elim c.if-p-kind.branch [
+      | then-p-kind+else-p-len w ↦ rw (eq-eqb _ _ w.if-p-kind.true, ne_eqb _ _ w.if-p-len.false)
+      | else-p-kind w ↦ rw (ne_eqb _ _ w.if-p-kind.false)
+    ] in
     passes_by (is_pair a.kind a.len) (λ p. true) false lengths l.i l.invariant c.loop-i-test.true e
 
 pub returns : goal.returns

@@ -1,5 +1,5 @@
 -- `wire::kinds::length_of` meets its contract: it looks for the first pair of that kind.
-use Rattle.std.proofs.Common.{eq-eqb, ne_eqb, ◌-◌, arith}
+use Rattle.std.proofs.Common.{eq-eqb, ne_eqb, arith}
 use Rattle.wire.specs.Kinds.{lengths}
 use Rattle.wire.proofs.Lengths.{starts, finds, passes_by, finds_none}
 use Rattle.wire.proofs.kinds.length_of.Goals as goal
