@@ -95,6 +95,6 @@ archive() {
     if [ -n "${GJALVORN_ARCHIVE-}" ]; then
         realpath -e -- "$GJALVORN_ARCHIVE"
     else
-        (cd "$x86_root" && rt staticlib ffi) >&2 && echo "$x86_root/target/staticlib/libffi.a"
+        (cd "$x86_root/crates/ffi" && rt lib) >&2 && echo "$x86_root/crates/ffi/out/libffi.a"
     fi
 }

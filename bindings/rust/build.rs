@@ -1,12 +1,12 @@
 //! Tells the linker where the proved archive is: beside the file that
-//! GJALVORN_ARCHIVE names, or where `rt staticlib ffi` puts it.
+//! GJALVORN_ARCHIVE names, or where `rt lib` puts it.
 
 use std::env;
 use std::path::{Path, PathBuf};
 
 const ARCHIVE: &str = "GJALVORN_ARCHIVE";
 const LIBRARY: &str = "libffi.a";
-const BUILT: &str = "../../target/staticlib/libffi.a";
+const BUILT: &str = "../../crates/ffi/out/libffi.a";
 
 fn main() {
     let archive = env::var_os(ARCHIVE).map_or_else(built_here, PathBuf::from);

@@ -3,7 +3,7 @@
 //   worked FILE              a line for each event
 //   worked FILE questions    what the questions find after the last event
 //
-// On x86-64, once `rt staticlib ffi` has been run: gcc -std=c99 -Iinclude examples/c/worked.c target/staticlib/libffi.a -o worked
+// On x86-64, once `rt lib` has been run in crates/ffi: gcc -std=c99 -Iinclude examples/c/worked.c crates/ffi/out/libffi.a -o worked
 #include "gjalvorn.h"
 
 #include <inttypes.h>
