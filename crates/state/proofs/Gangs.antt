@@ -1,10 +1,5 @@
 -- One thread more: what a turn of the loops over a gang's threads makes of the states and of the owing cores.
-use Prim.Native.Nat.{ℕ, ◌+◌}
-use mathlib.Core.Path.{◌≡◌}
-use mathlib.Core.List.{List}
-use lib.ListN.{set}
-use native.Mathlib.Numerals.{add-one}
-use borrow.Author.Tests.{eq-eqb, ne_eqb}
+use Rattle.std.proofs.Common.{ℕ, ◌+◌, ◌≡◌, List, set, add-one, eq-eqb, ne_eqb}
 use Rattle.coreset.specs.Set.{within_width}
 use Rattle.table.specs.Numbers.{ready}
 use Rattle.table.specs.Order.{gang_of, core_of}

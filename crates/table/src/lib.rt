@@ -1,4 +1,6 @@
 // The table of cores, gangs and pinned threads: its rules, the order of its gangs, and a core's first ready thread.
+#![tactic(auto)]
+
 ghost use Rattle.std.specs.Prelude.{◌≡◌};
 ghost use Rattle.table.specs.Rules.{empty_table};
 

@@ -1,0 +1,34 @@
+-- `table::rules::distinct`: the loop keeps that the marks are those of the priorities passed, and whether each of these was free.
+use Rattle.std.proofs.Common.{arith, ap, not}
+use Rattle.ranges.specs.laws.Pass.{passed_none, passed_more, passed_all}
+use Rattle.table.specs.laws.Occurs.{marked_none, marked_met, marked_more}
+use Rattle.table.specs.Rules.{distinct}
+use Rattle.table.proofs.rules.distinct.Goals as goal
+
+pub loop-g-init : goal.loop-g-init
+loop-g-init c = (passed_none _ _, marked_none _)
+
+pub overflow_cast-p : goal.overflow_cast-p
+overflow_cast-p c = omega arith
+
+pub bounds-seen-p : goal.bounds-seen-p
+bounds-seen-p c = omega arith
+
+pub bounds-seen-p-in-loop-g : goal.bounds-seen-p-in-loop-g
+bounds-seen-p-in-loop-g c = omega arith
+
+pub overflow_step-g : goal.overflow_step-g
+overflow_step-g c = omega arith
+
+pub loop-g-smaller : goal.loop-g-smaller
+loop-g-smaller c = omega arith
+
+pub loop-g-preserved : goal.loop-g-preserved
+loop-g-preserved c =
+    let inv = c.loop-g.invariant in
+    let met = marked_met _ _ _ _ c.at-p.ensures (omega arith) inv.1 in
+    (passed_more inv.0 c.loop-g-test.true (ap not met), marked_more _ _ _ _ c.at-p.ensures (omega arith) inv.1)
+
+pub returns : goal.returns
+unfolding distinct
+returns c = passed_all c.loop-g.invariant.0 c.loop-g-test.false

@@ -1,0 +1,14 @@
+-- `table::rules::threads_ok`: the loop keeps whether every place passed is right.
+use Rattle.ranges.specs.laws.Pass.{passed_none, passed_more, passed_all}
+use Rattle.table.specs.Rules.{threads_ok}
+use Rattle.table.proofs.rules.threads_ok.Goals as goal
+
+pub loop-t-init : goal.loop-t-init
+loop-t-init c = passed_none _ _
+
+pub loop-t-preserved : goal.loop-t-preserved
+loop-t-preserved c = passed_more c.loop-t.invariant c.loop-t-test.true c.thread_ok-ok.ensures
+
+pub returns : goal.returns
+unfolding threads_ok
+returns c = passed_all c.loop-t.invariant c.loop-t-test.false
