@@ -1,4 +1,6 @@
 // Document 01: "A batch reads event records and writes one ANSWER each into the lent output".
+#![tactic(auto)]
+
 ghost use Rattle.std.specs.Prelude.{◌≡◌, length};
 ghost use Rattle.system.specs.Events.{step_of};
 ghost use Rattle.wire.specs.Refusal.{number_of};

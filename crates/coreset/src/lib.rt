@@ -1,4 +1,6 @@
 // A set of cores as a mask: bit c is core c. A core number past the mask is no member, and changes nothing.
+#![tactic(auto)]
+
 ghost use Rattle.std.specs.Prelude.{◌≡◌};
 ghost use Rattle.coreset.specs.Set.{has, within_width, without_core, count, lowest};
 

@@ -1,4 +1,6 @@
 // The calls for C and Rust: each takes and gives plain values and byte slices, and comes to what the call that it names comes to.
+#![tactic(auto)]
+
 ghost use Rattle.std.specs.Prelude.{◌≡◌, length};
 ghost use Rattle.system.specs.WellFormed.{well_formed};
 ghost use Rattle.reading.specs.Reading.{default_budget};

@@ -1,4 +1,6 @@
 // Document 01, "The listing": where the events of an input start, and what one event prints; and what one thread prints after it.
+#![tactic(auto)]
+
 ghost use Rattle.std.specs.Prelude.{◌≡◌, ◌≤◌, length};
 ghost use Rattle.lines.specs.Shown.{Shown};
 ghost use Rattle.listed.specs.Start.{split_at, events_start};

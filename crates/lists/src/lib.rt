@@ -1,5 +1,7 @@
 // What a list has at a place, and a list with another value there. Past the last place there is what an unused place has, and a store
 // changes nothing: so that no reader and no writer needs a bound.
+#![tactic(auto)]
+
 ghost use Rattle.std.specs.Prelude.{◌≡◌, get_or, set};
 
 // What an unused place holds.

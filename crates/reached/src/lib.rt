@@ -1,1 +1,2 @@
 // No code: what holds of every system that an accepted table and any events lead to.
+#![tactic(auto)]

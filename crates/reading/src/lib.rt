@@ -1,4 +1,6 @@
 // A table's bytes, read record by record into a Table, or refused.
+#![tactic(auto)]
+
 ghost use Rattle.std.specs.Prelude.{◌≡◌};
 ghost use Rattle.table.specs.Rules.{empty_table};
 ghost use Rattle.reading.specs.declared.rules.Verdict.TheVariants.{Refused};

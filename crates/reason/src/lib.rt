@@ -1,4 +1,6 @@
 // Document 02, K3, "Why isn't my thread running?": for a thread, the first reason that holds.
+#![tactic(auto)]
+
 ghost use Rattle.std.specs.Prelude.{◌≡◌};
 ghost use Rattle.reason.specs.Why.{reason_number, reason_which, explanation_refusal, explanation_number, explanation_which, ready_reason};
 ghost use Rattle.reason.specs.Why.{reason_of, why_of};

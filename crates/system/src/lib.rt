@@ -1,5 +1,7 @@
 // The system: a table, its threads' states, each gang's releases, the lock, and the kept counts of the allowance. Seven events change
 // it and eight questions ask about it. Each takes the system by value and hands it back beside its answer.
+#![tactic(auto)]
+
 ghost use Rattle.std.specs.Prelude.{◌≡◌};
 ghost use Rattle.system.specs.System.{empty_system, fresh_system};
 ghost use Rattle.system.specs.WellFormed.{well_formed};
