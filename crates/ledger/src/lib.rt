@@ -1,4 +1,6 @@
 // Each gang's releases. Every release takes the next number, served or skipped, and a job carries the number of its own release.
+#![tactic(auto)]
+
 ghost use Rattle.std.specs.Prelude.{◌≡◌, get_or, set};
 ghost use Rattle.ledger.specs.Releases.{raised, raised_at, empty_ledger};
 ghost use Rattle.ledger.specs.WellFormed.{counts_agree, all_zero, place_ok, ledger_of, ledger_ok};

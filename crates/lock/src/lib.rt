@@ -1,5 +1,7 @@
 // The gang lock, and SERVE on it. It knows no table: who is first on a core, of which gang, and whether that gang is ahead of the holder,
 // is handed in.
+#![tactic(auto)]
+
 ghost use Rattle.std.specs.Prelude.{◌≡◌, List, ℕ, ◌<◌};
 ghost use Rattle.lock.specs.Serve.{free_lock, lock_of, owe_of, unmarked_of, vacated_of, freed_of, settled_of, left_of};
 ghost use Rattle.lock.specs.Serve.{locked_for, displaced_of, blocked_of, claimed_of, admitted_of, serve_of};
