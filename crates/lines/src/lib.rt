@@ -1,5 +1,4 @@
 // Document 01, "The listing": the text of the line that one event prints; of the line that one thread prints; and of the message lines.
-
 #![tactic(auto)]
 
 ghost use Rattle.std.specs.Prelude.{◌≡◌, ◌+◌, ◌<◌, ◌≤◌, length};
