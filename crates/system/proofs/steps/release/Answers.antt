@@ -5,10 +5,11 @@ use Rattle.system.specs.declared.System.{System}
 use Rattle.system.specs.laws.StepCases.{release_absent, release_spent, release_taken}
 use Rattle.system.specs.Parts.{release_parts}
 use Rattle.system.proofs.Parts.{put_refused}
+use Rattle.system.proofs.steps.release.Lts.{Args}
 use Rattle.system.proofs.steps.release.Goals as goal
 
 -- the system with the parts as they were lent, but for the holder and the core sets
-abbrev lent : goal.Args → System → Held → System
+abbrev lent : Args → System → Held → System
 lent a s h =
     release_parts s a.sizes a.gang.now a.core.now a.state.now a.number.now a.served.now a.skipped.now a.job.now h
 

@@ -5,10 +5,11 @@ use Rattle.system.specs.declared.System.{System}
 use Rattle.system.specs.Events.{reply_of, step_of}
 use Rattle.system.specs.Parts.{system_of}
 use Rattle.system.specs.System.{with_kept}
+use Rattle.system.proofs.steps.step.Lts.{Args}
 use Rattle.system.proofs.steps.step.Goals as goal
 
 -- the system of the parts as they were lent
-abbrev lent : goal.Args → System
+abbrev lent : Args → System
 lent a =
     system_of a.sizes a.priority.now a.budget.now a.gang.now a.core.now a.state.now a.number.now a.served.now
     a.skipped.now a.job.now a.held a.occupant.now a.kept.now
