@@ -7,10 +7,10 @@ use Rattle.system.proofs.System.serve.Goals as goal
 pub returns-then-not-well_formed : goal.returns-then-not-well_formed
 returns-then-not-well_formed c =
     let a = c.args in
-    event_refused a.self (λ (s : System). serve_step s a.c) c.well_formed-2.ensures c.if-not-well_formed.true-raw c.refused.ensures
+    event_refused a.self (λ (s : System). serve_step s a.c) c.well_formed-2.ensures c.if-not-well_formed.true c.refused.ensures
 
 pub returns : goal.returns
 returns c =
     let a = c.args in
-    event_done a.self (λ (s : System). serve_step s a.c) c.well_formed-2.ensures c.if-not-well_formed.false-raw c.held-held.ensures
+    event_done a.self (λ (s : System). serve_step s a.c) c.well_formed-2.ensures c.if-not-well_formed.false c.held-held.ensures
     (c.serve-stepped.ensures a.self) c.replied.ensures

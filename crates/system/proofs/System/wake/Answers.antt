@@ -7,10 +7,10 @@ use Rattle.system.proofs.System.wake.Goals as goal
 pub returns-then-not-well_formed : goal.returns-then-not-well_formed
 returns-then-not-well_formed c =
     let a = c.args in
-    event_refused a.self (λ (s : System). wake_step s a.t) c.well_formed-2.ensures c.if-not-well_formed.true-raw c.refused.ensures
+    event_refused a.self (λ (s : System). wake_step s a.t) c.well_formed-2.ensures c.if-not-well_formed.true c.refused.ensures
 
 pub returns : goal.returns
 returns c =
     let a = c.args in
-    event_done a.self (λ (s : System). wake_step s a.t) c.well_formed-2.ensures c.if-not-well_formed.false-raw c.held-held.ensures
+    event_done a.self (λ (s : System). wake_step s a.t) c.well_formed-2.ensures c.if-not-well_formed.false c.held-held.ensures
     (c.wake-stepped.ensures a.self) c.replied.ensures

@@ -17,7 +17,7 @@ returns-then-is_running c s =
     let a = c.args in
     leave_done _ _ _ (omega (arith, c.if-sizes-t.false)) (sym c.is_running.ensures ∙ c.if-is_running.true)
     ∙ put_turned s a.sizes a.core.now a.state.now a.held a.occupant.now a.t a.v
-    c.turn.ensures.0 (c.turn.ensures.1.0 _) c.turn.ensures.1.1
+    c.turn.ensures.stored (c.turn.ensures.owes _) c.turn.ensures.done
 
 pub returns : goal.returns
 returns c s =

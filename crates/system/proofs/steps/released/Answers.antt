@@ -8,10 +8,10 @@ returns-then-all_finished c s =
     let a = c.args in
     put_served s a.sizes a.gang.now a.core.now a.state.now a.number.now a.served.now a.skipped.now a.job.now a.held a.g
     (sym c.all_finished.ensures ∙ c.if-all_finished.true) c.make_ready.ensures c.make_owe.ensures
-    c.serve_release.ensures.0 c.serve_release.ensures.1.0 c.serve_release.ensures.1.1 c.value_at.ensures
+    c.serve_release.ensures.numbered c.serve_release.ensures.counted c.serve_release.ensures.carried c.value_at.ensures
 
 pub returns : goal.returns
 returns c s =
     let a = c.args in
     put_skipped s a.sizes a.gang.now a.core.now a.state.now a.number.now a.served.now a.skipped.now a.job.now a.held a.g
-    (sym c.all_finished.ensures ∙ c.if-all_finished.false) c.skip_release.ensures.0 c.skip_release.ensures.1 c.value_at-2.ensures
+    (sym c.all_finished.ensures ∙ c.if-all_finished.false) c.skip_release.ensures.numbered c.skip_release.ensures.counted c.value_at-2.ensures

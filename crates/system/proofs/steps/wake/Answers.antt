@@ -18,7 +18,7 @@ returns-then-at-eq-WAITING c s =
     let a = c.args in
     wake_done _ _ (omega (arith, c.if-sizes-t.false)) (sym c.at.ensures ∙ c.if-at-eq-WAITING.true)
     ∙ put_turned s a.sizes a.core.now a.state.now a.held s.lock.occupant a.t ready
-    c.turn.ensures.0 (c.turn.ensures.1.0 _) c.turn.ensures.1.1
+    c.turn.ensures.stored (c.turn.ensures.owes _) c.turn.ensures.done
 
 pub returns : goal.returns
 returns c s =
