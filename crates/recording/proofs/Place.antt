@@ -1,9 +1,5 @@
 -- The place at which a table is refused lies within the table's bytes.
-use Prim.Native.Nat.{ℕ, ◌≤◌}
-use mathlib.Core.Path.{◌≡◌, ap}
-use mathlib.Core.List.{List}
-use native.Mathlib.Omega.{arith}
-use lib.ListN.{length}
+use Rattle.std.proofs.Common.{ℕ, ◌≤◌, ◌≡◌, ap, List, arith, length}
 use Rattle.reading.specs.Reading.{default_budget}
 use Rattle.reading.specs.Sound.{sound}
 use Rattle.reading.specs.SystemRead.{system_read}

@@ -1,9 +1,5 @@
 -- An event that is listed takes a whole record of the bytes from its place on.
-use Prim.Native.Nat.{ℕ, ◌+◌, ◌-◌, ◌≤◌}
-use mathlib.Core.Path.{◌≡◌, sym, ap, ◌∙◌}
-use mathlib.Core.List.{List}
-use native.Mathlib.Omega.{arith}
-use lib.ListN.{length, take, drop, length-take, length-drop}
+use Rattle.std.proofs.Common.{ℕ, ◌+◌, ◌-◌, ◌≤◌, ◌≡◌, sym, ap, ◌∙◌, List, arith, length, take, drop, length-take, length-drop}
 use Rattle.wire.specs.Question.{WholeRecord}
 use Rattle.wire.specs.Record.{header_size}
 use Rattle.system.specs.declared.System.{System}
