@@ -5,6 +5,7 @@ ghost use Rattle.state.specs.Threads.{is_running, finished_in, all_finished, rea
 use lists::{at, at_or, put};
 
 // Whether thread t is its core's occupant and is ready.
+#[tactic(auto, unfolding(crate::specs::Threads::is_running))]
 pub fn is_running<'a>(
     state: &'a [u8; 128],
     core: &'a [u8; 128],

@@ -1,5 +1,4 @@
 -- `states_ok` meets its contract: the loop keeps whether every place passed is right.
-use Rattle.std.proofs.Common.{◌-◌}
 use Rattle.ranges.specs.laws.Pass.{passed_none, passed_more, passed_all}
 use Rattle.state.specs.Rules.{states_ok}
 use Rattle.state.proofs.rules.states_ok.Goals as goal

@@ -1,7 +1,7 @@
 -- `all_finished` meets its contract: the loop keeps that every thread passed is finished or another gang's, and one that is not decides.
-use Rattle.state.specs.Threads.{finished_in, all_finished}
+use Rattle.state.specs.Threads.{all_finished}
 use Rattle.ranges.specs.laws.Pass.{passed_none, passed_more, passed_all, passed_not}
-use Rattle.std.proofs.Common.{true, sym, ◌∙◌, arith, ◌-◌}
+use Rattle.std.proofs.Common.{sym, ◌∙◌}
 use Rattle.state.proofs.threads.all_finished.Goals as goal
 
 pub loop-t-init : goal.loop-t-init
@@ -10,12 +10,6 @@ loop-t-init c = passed_none _ _
 pub returns-then-not-finished_in : goal.returns-then-not-finished_in
 unfolding all_finished
 returns-then-not-finished_in c = passed_not _ _ _ c.loop-t-test.true (sym c.if-not-finished_in.true ∙ c.finished_in.ensures)
-
-pub overflow_step-t : goal.overflow_step-t
-overflow_step-t c = omega arith
-
-pub loop-t-smaller : goal.loop-t-smaller
-loop-t-smaller c = omega arith
 
 pub loop-t-preserved : goal.loop-t-preserved
 loop-t-preserved c =

@@ -1,11 +1,8 @@
 -- `all_finished` meets its contract: the loop keeps that every thread passed is finished or another gang's, and one that is not decides.
-use Rattle.state.specs.Threads.{finished_in, all_finished}
+use Rattle.state.specs.Threads.{finished_in}
 use Rattle.ranges.specs.laws.Pass.{Passed}
-use Rattle.std.proofs.Common.{true, ◌-◌}
+use Rattle.std.proofs.Common.{true}
 use Rattle.state.proofs.threads.all_finished.Given as goal
 
 abbrev pub invariant-loop-t : goal.invariant-loop-t
 invariant-loop-t l = Passed l.n (finished_in l.state l.gang l.g) l.t true
-
-abbrev pub decreases-loop-t : goal.decreases-loop-t
-decreases-loop-t l = l.n - l.t

@@ -3,19 +3,13 @@ use Rattle.state.proofs.Gangs.{owed_one, owed_none}
 use Rattle.state.specs.Threads.{owed_by}
 use Rattle.coreset.specs.Set.{within_width}
 use Rattle.ranges.specs.laws.Pass.{upto_all}
-use Rattle.std.proofs.Common.{refl, sym, ap, ◌∙◌, arith, ◌-◌}
+use Rattle.std.proofs.Common.{refl, sym, ap, ◌∙◌, arith}
 use Rattle.state.proofs.threads.make_owe.Goals as goal
 use Rattle.state.proofs.threads.make_owe.Goals.{then-at-g, else-at-g}
 
 pub loop-t-init : goal.loop-t-init
 unfolding owed_by
 loop-t-init c = record { place = omega arith; holds = refl }
-
-pub overflow_step-t : goal.overflow_step-t
-overflow_step-t c = omega arith
-
-pub loop-t-smaller : goal.loop-t-smaller
-loop-t-smaller c = omega arith
 
 pub loop-t-preserved : goal.loop-t-preserved
 loop-t-preserved c =

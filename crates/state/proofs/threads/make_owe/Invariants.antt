@@ -1,11 +1,8 @@
 -- `make_owe` meets its contract: the loop keeps that the threads passed have added their cores.
 use Rattle.state.specs.Threads.{owed_by}
 use Rattle.ranges.specs.laws.Pass.{Upto}
-use Rattle.std.proofs.Common.{◌≡◌, ◌-◌}
+use Rattle.std.proofs.Common.{◌≡◌}
 use Rattle.state.proofs.threads.make_owe.Given as goal
 
 abbrev pub invariant-loop-t : goal.invariant-loop-t
 invariant-loop-t l = Upto l.n (λ k. l.m ≡ owed_by l.core l.gang l.g k l.owing) l.t
-
-abbrev pub decreases-loop-t : goal.decreases-loop-t
-decreases-loop-t l = l.n - l.t

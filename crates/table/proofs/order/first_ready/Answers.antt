@@ -10,12 +10,6 @@ pub loop-t-init : goal.loop-t-init
 unfolding pick_below
 loop-t-init c = record { place = omega arith; holds = refl }
 
-pub overflow_step-t : goal.overflow_step-t
-overflow_step-t c = omega arith
-
-pub loop-t-smaller : goal.loop-t-smaller
-loop-t-smaller c = omega arith
-
 pub loop-t-preserved : goal.loop-t-preserved
 loop-t-preserved c = record { place = omega arith; holds = c.first_with-best.ensures ∙ pick_more _ _ _ _ c.loop-t.invariant.holds }
 

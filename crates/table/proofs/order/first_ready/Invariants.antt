@@ -1,5 +1,5 @@
 -- `table::order::first_ready`: the loop keeps the first of the threads that it has passed.
-use Rattle.std.proofs.Common.{◌-◌, ◌≡◌}
+use Rattle.std.proofs.Common.{◌≡◌}
 use Rattle.ranges.specs.laws.Pass.{Upto}
 use Rattle.pick.specs.Pick.{pick_below}
 use Rattle.table.specs.Order.{stands_at, before_by}
@@ -8,6 +8,3 @@ use Rattle.table.proofs.order.first_ready.Given as goal
 abbrev pub invariant-loop-t : goal.invariant-loop-t
 invariant-loop-t l =
     Upto l.threads (λ n. l.best ≡ pick_below (stands_at l.state l.core l.c) (before_by l.gang l.priority) n) l.t
-
-abbrev pub decreases-loop-t : goal.decreases-loop-t
-decreases-loop-t l = l.threads - l.t

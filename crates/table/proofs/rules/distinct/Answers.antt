@@ -8,21 +8,6 @@ use Rattle.table.proofs.rules.distinct.Goals as goal
 pub loop-g-init : goal.loop-g-init
 loop-g-init c = (passed_none _ _, marked_none _)
 
-pub overflow_cast-p : goal.overflow_cast-p
-overflow_cast-p c = omega arith
-
-pub bounds-seen-p : goal.bounds-seen-p
-bounds-seen-p c = omega arith
-
-pub bounds-seen-p-in-loop-g : goal.bounds-seen-p-in-loop-g
-bounds-seen-p-in-loop-g c = omega arith
-
-pub overflow_step-g : goal.overflow_step-g
-overflow_step-g c = omega arith
-
-pub loop-g-smaller : goal.loop-g-smaller
-loop-g-smaller c = omega arith
-
 pub loop-g-preserved : goal.loop-g-preserved
 loop-g-preserved c =
     let inv = c.loop-g.invariant in

@@ -7,18 +7,6 @@ use Rattle.table.proofs.rules.gangs_of.Goals as goal
 pub loop-t-init : goal.loop-t-init
 loop-t-init c = record { place = omega arith; holds = marked_none _ }
 
-pub overflow_cast-g : goal.overflow_cast-g
-overflow_cast-g c = omega arith
-
-pub bounds-seen-g : goal.bounds-seen-g
-bounds-seen-g c = omega arith
-
-pub overflow_step-t : goal.overflow_step-t
-overflow_step-t c = omega arith
-
-pub loop-t-smaller : goal.loop-t-smaller
-loop-t-smaller c = omega arith
-
 pub loop-t-preserved : goal.loop-t-preserved
 loop-t-preserved c =
     record { place = omega arith; holds = marked_more _ _ _ _ c.at-g.ensures (omega arith) c.loop-t.invariant.holds }

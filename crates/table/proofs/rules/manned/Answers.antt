@@ -7,18 +7,6 @@ use Rattle.table.proofs.rules.manned.Goals as goal
 pub loop-g-init : goal.loop-g-init
 loop-g-init c = passed_none _ _
 
-pub overflow_cast-i : goal.overflow_cast-i
-overflow_cast-i c = omega arith
-
-pub bounds-seen-i : goal.bounds-seen-i
-bounds-seen-i c = omega arith
-
-pub overflow_step-g : goal.overflow_step-g
-overflow_step-g c = omega arith
-
-pub loop-g-smaller : goal.loop-g-smaller
-loop-g-smaller c = omega arith
-
 pub loop-g-preserved : goal.loop-g-preserved
 loop-g-preserved c = passed_more c.loop-g.invariant c.loop-g-test.true (c.gangs_of-seen.ensures.marks _ (omega arith))
 

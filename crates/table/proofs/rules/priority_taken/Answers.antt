@@ -12,12 +12,6 @@ returns-then-at-p c =
     let its = sym c.at.ensures ∙ c.if-at-p.true in
     sym (make_occurs _ _ _ c.loop-g.g c.loop-g-test.true its)
 
-pub overflow_step-g : goal.overflow_step-g
-overflow_step-g c = omega arith
-
-pub loop-g-smaller : goal.loop-g-smaller
-loop-g-smaller c = omega arith
-
 pub loop-g-preserved : goal.loop-g-preserved
 loop-g-preserved c = record {
   place = omega arith;
