@@ -2,12 +2,14 @@
 use Rattle.std.specs.Prelude.{ℕ, ◌≤◌, ◌<◌, true, ◌≡◌, List, length, set, replicate}
 use Rattle.std.proofs.Common.{arith}
 use Rattle.ledger.specs.declared.Ledger.{Ledger}
-use Rattle.ledger.specs.laws.LedgerKept.{empty_ledger_ok, served_ok, skipped_ok}
+use Rattle.ledger.specs.laws.LedgerKept.{empty_ledger_ok, served_ok}
+use Rattle.ledger.proofs.Skips.{skipped_ok}
 use Rattle.ledger.specs.Releases.{last_number, served_of, skipped_of}
 use Rattle.ledger.specs.WellFormed.{LedgerOk}
 use Rattle.lock.specs.declared.Lock.{Lock}
 use Rattle.lock.specs.LockOk.{LockOk}
-use Rattle.lock.specs.laws.LockKept.{Handed, kept_serve, kept_owing, kept_owe, free_ok}
+use Rattle.lock.specs.laws.LockKept.{Handed, kept_owing, kept_owe, free_ok}
+use Rattle.lock.proofs.LockKept.{kept_serve}
 use Rattle.state.specs.laws.Owed.{owed_in}
 use Rattle.state.specs.Rules.{StatesOk, CountsOk}
 use Rattle.state.specs.laws.Rules.{states_none, states_set, states_readied, counts_none, counts_set}

@@ -2,7 +2,7 @@
 use Rattle.std.specs.Prelude.{true, ◌&&◌, ◌≡◌}
 use Rattle.ledger.specs.laws.LedgerOk.{ledger_ok_lem, ok_ledger}
 use Rattle.ledger.specs.WellFormed.{ledger_ok}
-use Rattle.lock.specs.laws.LockOk.{lock_ok_lem, ok_lock}
+use Rattle.lock.proofs.LockOk.{lock_ok_lem, ok_lock}
 use Rattle.lock.specs.LockRules.{lock_ok}
 use Rattle.ranges.specs.laws.Logic.{both}
 use Rattle.state.specs.Rules.{states_ok, counts_ok}

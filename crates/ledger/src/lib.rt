@@ -111,6 +111,7 @@ fn place_ok(used: bool, number: u32, served: u32, skipped: u32, job: u32) -> boo
 }
 
 // The rule of a gang's place. The sum is wide, so that it cannot wrap.
+#[tactic(auto, unfolding(crate::specs::WellFormed::counts_agree))]
 fn counts_agree(number: u32, served: u32, skipped: u32, job: u32) -> bool
     ensures { result ≡ counts_agree number served skipped job }
 {

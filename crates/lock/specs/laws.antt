@@ -2,10 +2,8 @@ pub mod ServeCases
 pub mod LockEvents
 pub mod Good
 pub mod Held
-pub mod GoodKept
 pub mod LockCases
 pub mod LockKept
-pub mod LockOk
 pub mod Occupants
 pub mod AtRest
 pub mod ServicesLeft

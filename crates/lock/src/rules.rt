@@ -34,6 +34,7 @@ fn sets_ok(cores: u8, c: u8, named: bool) -> bool
 }
 
 // Core c's occupant t, which is pinned to core `home`, is pinned to c, and c exists; or there is none.
+#[tactic(auto, unfolding(crate::specs::LockRules::pinned_ok))]
 fn pinned_ok(cores: u8, threads: u8, c: u8, t: u8, home: u8) -> bool
     ensures { result ≡ pinned_ok cores threads c t home }
 {

@@ -7,7 +7,7 @@ use Rattle.std.proofs.Math.Decide.{ℕ_discrete}
 use Rattle.coreset.specs.Counting.{some_core}
 use Rattle.lock.specs.Times.{times}
 use Rattle.lock.specs.laws.Times.{thrice_ends}
-use Rattle.lock.specs.laws.Thrice.{thrice, one_lock}
+use Rattle.lock.proofs.Thrice.{thrice, one_lock}
 use Rattle.system.specs.declared.System.{System}
 use Rattle.system.specs.System.{with_lock}
 use Rattle.reached.specs.Reached.{Reached}

@@ -7,7 +7,7 @@ use Rattle.lists.specs.laws.Lists.{same_throughout}
 use Rattle.ranges.specs.laws.Logic.{clash, is_false}
 use Rattle.lock.specs.Good.{Good}
 use Rattle.lock.specs.laws.Good.{good_free}
-use Rattle.lock.specs.laws.GoodKept.{good_serve}
+use Rattle.lock.proofs.GoodKept.{good_serve}
 use Rattle.lock.specs.laws.LockEvents.{Unmoved, same_order, good_event, good_owe}
 use Rattle.table.specs.declared.Table.{Table}
 use Rattle.table.specs.Numbers.{max_threads}

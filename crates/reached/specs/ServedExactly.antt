@@ -4,7 +4,8 @@ use Rattle.std.specs.Prelude.{ℕ, ◌+◌, ◌≤◌, ◌<◌, Bool, true, fals
 use Rattle.std.proofs.Common.{ap, ◌∙◌, arith}
 use Rattle.std.proofs.Math.Decide.{dec_lt}
 use Rattle.ledger.specs.Releases.{last_number, number_at, job_at}
-use Rattle.ledger.specs.laws.LedgerKept.{serve_raises, skip_raises}
+use Rattle.ledger.specs.laws.LedgerKept.{serve_raises}
+use Rattle.ledger.proofs.Skips.{skip_raises}
 use Rattle.ranges.specs.laws.Logic.{clash}
 use Rattle.state.specs.HasThread.{HasUnfinished}
 use Rattle.state.specs.laws.Threads.{all_finished_lem, make_finished, some_unfinished, make_unfinished}

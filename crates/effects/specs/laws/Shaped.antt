@@ -12,7 +12,7 @@ use Rattle.lock.specs.declared.Lock.{Lock}
 use Rattle.lock.specs.laws.ServeCases.{serve_beyond}
 use Rattle.lock.specs.laws.Occupants.{serve_room}
 use Rattle.lock.specs.LockOk.{Masks}
-use Rattle.lock.specs.laws.LockKept.{serve_masks}
+use Rattle.lock.proofs.LockKept.{serve_masks}
 use Rattle.lock.specs.Serve.{with_owing, serve_by}
 use Rattle.lock.specs.laws.ServeSteps.{serve_by_order}
 use Rattle.ranges.specs.laws.Logic.{at_or_away}

@@ -4,11 +4,11 @@ use Rattle.std.proofs.Common.{◌∙◌, arith}
 use Rattle.lists.specs.laws.Lists.{same_throughout}
 use Rattle.ranges.specs.laws.Logic.{at_or_away}
 use Rattle.ledger.specs.declared.Ledger.{Ledger}
-use Rattle.ledger.specs.Releases.{last_number, number_at, served_at, skipped_at, job_at, empty_ledger, served_of, skipped_of}
+use Rattle.ledger.specs.Releases.{last_number, number_at, served_at, skipped_at, job_at, empty_ledger, served_of}
 use Rattle.ledger.specs.WellFormed.{Agrees, Unused, LedgerOk}
 use Rattle.ledger.specs.laws.LedgerOk.{zeros_agree}
 use Rattle.ledger.specs.Sized.{Sized, SameAt}
-use Rattle.ledger.specs.laws.Ledger.{WasServed, WasSkipped, served_other, skipped_other, served_here, skipped_here}
+use Rattle.ledger.specs.laws.Ledger.{WasServed, served_other, served_here}
 
 -- ---- before any release
 
@@ -26,14 +26,14 @@ module _ (gangs : ℕ) (l : Ledger) (g : ℕ) (k : LedgerOk gangs l) (h : g < ga
   served_below : served_at l g < last_number
   served_below = let e = (k.agrees g h).adds_up in omega arith
 
-  skipped_below : skipped_at l g < last_number
+  pub skipped_below : skipped_at l g < last_number
   skipped_below = let e = (k.agrees g h).adds_up in omega arith
 
 -- ---- a release of gang g
 
 module _ (gangs : ℕ) (l m : Ledger) (g : ℕ) (k : LedgerOk gangs l) (h : g < gangs) where
   -- the other places are as they were, so gang g's own decides
-  kept : ((d : ℕ) → (d ≡ g → ⊥) → SameAt l m d) → Agrees m g → LedgerOk gangs m
+  pub kept : ((d : ℕ) → (d ≡ g → ⊥) → SameAt l m d) → Agrees m g → LedgerOk gangs m
   kept same here = record { agrees = at_or_away (λ d. d < gangs → Agrees m d) g (λ q. here) agrees; unused = λ d q. unused d q (λ e. omega arith) }
     where
       agrees : (d : ℕ) → (d ≡ g → ⊥) → d < gangs → Agrees m d
@@ -65,24 +65,9 @@ served_agrees l m g a w =
     let j : job_at m g ≡ number_at l g + 1 = w.job_number in
     record { job_within = omega arith; adds_up = omega (arith, a.adds_up) }
 
--- the job is an older release's, and one more was skipped
-skipped_agrees : (l m : Ledger) (g : ℕ) → Agrees l g → WasSkipped l m g → Agrees m g
-skipped_agrees l m g a w =
-    let n : number_at m g ≡ number_at l g + 1 = w.next_number in
-    let v : served_at m g ≡ served_at l g = w.served_stays in
-    let k : skipped_at m g ≡ skipped_at l g + 1 = w.one_skipped in
-    let j : job_at m g ≡ job_at l g = w.job_stays in
-    record { job_within = omega (arith, a.job_within); adds_up = omega (arith, a.adds_up) }
-
 module _ (gangs : ℕ) (l : Ledger) (g : ℕ) (s : Sized l) (k : LedgerOk gangs l) (h : g < gangs) (w : gangs ≤ 32) (n : number_at l g < last_number) where
   pub serve_raises : WasServed l (served_of l g) g
   serve_raises = served_here l g s (omega arith) n (served_below gangs l g k h n)
 
-  pub skip_raises : WasSkipped l (skipped_of l g) g
-  skip_raises = skipped_here l g s (omega arith) n (skipped_below gangs l g k h n)
-
   pub served_ok : LedgerOk gangs (served_of l g)
   served_ok = kept gangs l (served_of l g) g k h (served_other l g) (served_agrees l (served_of l g) g (k.agrees g h) serve_raises)
-
-  pub skipped_ok : LedgerOk gangs (skipped_of l g)
-  skipped_ok = kept gangs l (skipped_of l g) g k h (skipped_other l g) (skipped_agrees l (skipped_of l g) g (k.agrees g h) skip_raises)

@@ -6,7 +6,8 @@ use Rattle.ledger.specs.declared.Ledger.{Ledger}
 use Rattle.ledger.specs.Releases.{last_number, number_at, served_at, skipped_at, job_at, served_of, skipped_of}
 use Rattle.ledger.specs.Sized.{SameAt}
 use Rattle.ledger.specs.laws.Ledger.{WasServed, WasSkipped, served_other, skipped_other}
-use Rattle.ledger.specs.laws.LedgerKept.{serve_raises, skip_raises}
+use Rattle.ledger.specs.laws.LedgerKept.{serve_raises}
+use Rattle.ledger.proofs.Skips.{skip_raises}
 use Rattle.table.specs.laws.Table.{gangs_room}
 use Rattle.wire.specs.declared.answer.Answer.{Answer}
 use Rattle.wire.specs.declared.answer.Answer.TheVariants.{Served, Skipped}

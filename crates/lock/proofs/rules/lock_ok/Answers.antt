@@ -57,7 +57,8 @@ returns-then-not-ours_ok c =
     let at = c.loop-c.c in
     let t = c.at_or-t in
     sym (lock_not_core p l at c.loop-c-test.true
-    (core_not_ours p l at t.result t.ensures (sym (ours_said p l at t.result _ _ _ c.ours_ok.ensures c.test-in-loop-c.ensures c.at-in-loop-c.ensures) ∙ c.if-not-ours_ok.true)))
+    (core_not_ours p l at t.result t.ensures
+    (sym (ours_said p l at t.result _ _ _ c.ours_ok.ensures c.test-in-loop-c.ensures c.at-in-loop-c.ensures) ∙ c.if-not-ours_ok.true)))
 
 pub loop-c-preserved : goal.loop-c-preserved
 loop-c-preserved c =
