@@ -26,7 +26,7 @@ use Rattle.batch.specs.laws.Applies.{ran_applies, ran_stops}
 
 -- a promise allows one answer and one output
 pub one_outcome : (r : Run) (out : List ℕ) {x y : List ℕ} {b c : Batched} → Came r out x b → Came r out y c → (b ≡ c) × (x ≡ y)
-one_outcome r out p q = (one_answer (batched r) p.told q.told, one_answer (output_after r out) p.output q.output)
+one_outcome r out p q = (one_answer _ p.told q.told, one_answer _ p.output q.output)
 
 -- the events of the bytes that a batch reads
 abbrev pub events_read : System → List ℕ → ℕ → List Event

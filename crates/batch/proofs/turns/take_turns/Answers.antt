@@ -20,7 +20,7 @@ returns-then-out-written-lt-ANSWER_SIZE c =
     let f = c.loop-read.invariant in
     let more = c.loop-read-test.true in
     let k = same-room f in
-    rw c.stopped.ensures (stops_here f more (no_room (next_is f c.in-Event.ensures refl) (omega (arith, c.if-out-written-lt-ANSWER_SIZE.true))))
+    rw c.stopped.ensures (stops_here f more (no_room (next_is f c.in-Event.ensures refl) (omega arith)))
 
 pub overflow_add-read : goal.overflow_add-read
 overflow_add-read c =
@@ -46,7 +46,7 @@ unfolding system_of
 loop-read-preserved c =
     let f = c.loop-read.invariant in
     let k = same-room f in
-    goes_on f (next_is f c.in-Event.ensures refl) (omega (arith, c.if-out-written-lt-ANSWER_SIZE.false)) c.step-stepped.ensures
+    goes_on f (next_is f c.in-Event.ensures refl) (omega arith) c.step-stepped.ensures
     c.record_of-answer.ensures c.write_answer.ensures.out_after
 
 pub shape_of-out-in-Refused : goal.shape_of-out-in-Refused

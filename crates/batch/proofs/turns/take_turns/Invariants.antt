@@ -9,10 +9,13 @@ use Rattle.batch.proofs.turns.take_turns.Given as goal
 
 abbrev pub invariant-loop-read : goal.invariant-loop-read
 invariant-loop-read l =
-    Sofar l.events l.initial.out
-    (run_of step_of (length l.events) (system_of l.sizes l.priority l.budget l.gang l.core l.initial.state l.initial.number l.initial.served l.initial.skipped l.initial.job l.initial.held l.initial.occupant l.initial.kept) l.events (length l.initial.out))
-    (system_of l.sizes l.priority l.budget l.gang l.core l.state l.number l.served l.skipped l.job l.held l.occupant l.kept) l.read l.written l.out
+    let i = l.initial in
+    Sofar l.events i.out
+    (run_of step_of (length l.events)
+    (system_of l.sizes l.priority l.budget l.gang l.core i.state i.number i.served i.skipped i.job i.held i.occupant i.kept)
+    l.events (length i.out))
+    (system_of l.sizes l.priority l.budget l.gang l.core l.state l.number l.served l.skipped l.job l.held l.occupant l.kept)
+    l.read l.written l.out
 
 abbrev pub decreases-loop-read : goal.decreases-loop-read
-decreases-loop-read l =
-    length l.events - l.read
+decreases-loop-read l = length l.events - l.read

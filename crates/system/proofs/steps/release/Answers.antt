@@ -17,11 +17,11 @@ returns-then-sizes-g c s =
 pub returns-then-value_at : goal.returns-then-value_at
 returns-then-value_at c s =
     let a = c.args in
-    release_spent _ _ (omega (arith, c.if-sizes-g.false)) (sym c.value_at.ensures ∙ c.if-value_at.true)
+    release_spent _ _ (omega arith) (sym c.value_at.ensures ∙ c.if-value_at.true)
     ∙ put_refused
     (λ (h : Held). release_parts s a.sizes a.gang.now a.core.now a.state.now a.number.now a.served.now a.skipped.now a.job.now h)
     c.refused-then-value_at.ensures
 
 pub returns : goal.returns
 returns c s =
-    release_taken _ _ (omega (arith, c.if-sizes-g.false)) (λ q. c.if-value_at.false (c.value_at.ensures ∙ q)) ∙ c.released.ensures s
+    release_taken _ _ (omega arith) (λ q. c.if-value_at.false (c.value_at.ensures ∙ q)) ∙ c.released.ensures s
