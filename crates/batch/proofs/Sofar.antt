@@ -23,7 +23,8 @@ use Rattle.batch.specs.Stops.{Stops}
 use Rattle.batch.specs.laws.Turn.{answer_length, bytes_length}
 use Rattle.batch.specs.Batch.{and_then, batch_ends, run_of}
 use Rattle.batch.specs.laws.AndThen.{then_assoc, then_first, then_stopped, written_then, output_then, output_length}
-use Rattle.batch.specs.laws.Ran.{Ran, ends, halts, goes, run_is}
+use Rattle.batch.specs.laws.Ran.{Ran, ends, halts, goes}
+use Rattle.batch.proofs.Ran.{run_is}
 use Rattle.batch.proofs.Lent.{tail_part, put_tail}
 
 -- ev and o are the events and the output handed in; s, out, and the places at of ev and w of out are where the loop stands

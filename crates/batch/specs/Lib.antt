@@ -2,7 +2,6 @@ pub mod Turn
 pub mod Batch
 pub mod History
 pub mod BatchLaws
-pub mod TwoBatches
 pub mod laws
 pub mod Stops
 pub mod Applies

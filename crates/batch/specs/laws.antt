@@ -1,9 +1,6 @@
 pub mod AndThen
 pub mod BatchCases
-pub mod Bounds
 pub mod RunKeeps
 pub mod Ran
-pub mod Two
 pub mod Turn
-pub mod Applies
 pub mod History

@@ -15,7 +15,8 @@ use Rattle.reading.specs.Reading.{reading_of}
 use Rattle.reading.specs.SystemRead.{system_read}
 use Rattle.batch.specs.Applies.{Applies}
 use Rattle.batch.specs.Batch.{batch_of}
-use Rattle.batch.specs.BatchLaws.{events_read, batch_events}
+use Rattle.batch.specs.BatchLaws.{events_read}
+use Rattle.batch.proofs.BatchLaws.{batch_events}
 use Rattle.batch.specs.Turn.{Run, bytes_of, wrote}
 use Rattle.reached.specs.Reached.{Reached, after}
 use Rattle.reached.specs.History.{history, took_release, served_release, skipped_release, select, numbers_of, count_up, last_or}

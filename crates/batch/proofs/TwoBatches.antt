@@ -9,9 +9,9 @@ use Rattle.batch.specs.laws.Turn.{stops_some}
 use Rattle.batch.specs.Batch.{and_then, batch_of}
 use Rattle.batch.specs.laws.AndThen.{output_then}
 use Rattle.batch.specs.laws.BatchCases.{batch_well, batch_ill}
-use Rattle.batch.specs.BatchLaws.{ran_here, batch_stops, batch_sound}
-use Rattle.batch.specs.laws.Ran.{run_is}
-use Rattle.batch.specs.laws.Two.{ran_two}
+use Rattle.batch.proofs.BatchLaws.{ran_here, batch_stops, batch_sound}
+use Rattle.batch.proofs.Ran.{run_is}
+use Rattle.batch.proofs.Two.{ran_two}
 
 -- a batch that ends with 0
 module _ (s : System) (a : List ℕ) (room : ℕ) (zero : (batch_of s a room).number ≡ 0) where

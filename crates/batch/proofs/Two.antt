@@ -11,7 +11,7 @@ use Rattle.batch.specs.Turn.{Run, written, answered}
 use Rattle.batch.specs.laws.Turn.{stops_some}
 use Rattle.batch.specs.Batch.{and_then}
 use Rattle.batch.specs.laws.AndThen.{then_first, then_assoc}
-use Rattle.batch.specs.laws.Bounds.{room_left}
+use Rattle.batch.proofs.Bounds.{room_left}
 use Rattle.batch.specs.laws.Ran.{Ran, ends, halts, goes}
 
 nothing : (xs : List ℕ) → length xs ≡ 0 → xs ≡ []

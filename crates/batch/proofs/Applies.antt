@@ -12,7 +12,7 @@ use Rattle.wire.specs.declared.event.NextEvent.{NextEvent}
 use Rattle.wire.specs.declared.event.NextEvent.TheVariants as found
 use Rattle.effects.specs.Run.{system_after, history_by}
 use Rattle.batch.specs.Turn.{Run, answer_to}
-use Rattle.batch.specs.laws.Bounds.{room_left, read_fits}
+use Rattle.batch.proofs.Bounds.{room_left, read_fits}
 use Rattle.batch.specs.History.{and_after, events_in}
 use Rattle.batch.specs.laws.Ran.{Ran, ends, halts, goes}
 use Rattle.batch.specs.Applies.{Applies, StopsAt}
