@@ -18,6 +18,5 @@ pub mod AtRest
 pub mod AnyServe
 pub mod WrongServe
 pub mod NeverNone
-pub mod FromBytes
 pub mod WorkedReached
 pub mod laws

@@ -21,13 +21,13 @@ use Rattle.batch.specs.Turn.{Run, bytes_of, wrote}
 use Rattle.reached.specs.Reached.{Reached, after}
 use Rattle.reached.specs.History.{history, took_release, served_release, skipped_release, select, numbers_of, count_up, last_or}
 use Rattle.reached.specs.ByAnswers.{told_taken, told_served, told_skipped, answers_that, numbers_told}
-use Rattle.reached.specs.laws.ByAnswers.{Agree, same_told, answers_selected, numbers_told_lem}
+use Rattle.reached.proofs.ByAnswers.{Agree, same_told, answers_selected, numbers_told_lem}
 use Rattle.reached.specs.ByEvents.{after_reached}
 use Rattle.reached.specs.Formed.{reached_formed, reached_shaped, reached_well}
 use Rattle.reached.specs.Read.{read_accepted, read_reached}
-use Rattle.reached.specs.Releases.{number_is_taken, served_is, skipped_is, job_is, no_gap}
+use Rattle.reached.proofs.Releases.{number_is_taken, served_is, skipped_is, job_is, no_gap}
 use Rattle.reached.specs.TrueSum.{true_sum, truly_stopped}
-use Rattle.reached.specs.Allowed.{kept_is, same_stops}
+use Rattle.reached.proofs.Allowed.{kept_is, same_stops}
 
 -- ---- a batch from a reached state
 
