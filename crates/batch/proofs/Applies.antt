@@ -1,6 +1,7 @@
 -- Laws of `RanLaws`.
 use Rattle.std.specs.Prelude.{ℕ, zero, suc, ◌+◌, ◌≤◌, ◌≡◌, refl, List, [], ◌∷◌, length, take, drop}
-use Rattle.std.proofs.Common.{sym, ap, ◌∙◌, inl, inr, ⊎_elim, zero-add, suc-add, arith, length-take, length-drop, take-append-drop, take_all, drop-drop}
+use Rattle.std.proofs.Common.{sym, ap, ◌∙◌, inl, inr, ⊎_elim, zero-add, suc-add, arith, length-take, length-drop, take-append-drop, take_all}
+use Rattle.std.proofs.Common.{drop-drop}
 use Rattle.std.proofs.Math.Nat.{sub-zero}
 use Rattle.system.specs.declared.System.{System}
 use Rattle.system.specs.declared.events.Reply.{Reply}
@@ -33,7 +34,8 @@ one_read : (n m k : ℕ) (e : Event) (ev : List ℕ) → next_event ev ≡ found
     → events_in (suc n) (take (m + k) ev) ≡ e ∷ events_in n (take k (drop m ev))
 unfolding events_in
 one_read n m k e ev f l =
-    ap (λ (x : NextEvent). and_after x (λ next. events_in n (drop next (take (m + k) ev)))) first ∙ ap (λ (x : List ℕ). e ∷ events_in n x) (cut m k ev)
+    ap (λ (x : NextEvent). and_after x (λ next. events_in n (drop next (take (m + k) ev)))) first
+    ∙ ap (λ (x : List ℕ). e ∷ events_in n x) (cut m k ev)
   where
     first : next_event (take (m + k) ev) ≡ found.Event e m
     first =

@@ -77,7 +77,8 @@ module _ (s : System) (ev : List ℕ) (room : ℕ) where
 
       -- answer k is that of event k on the system after the k events before it
       pub batch_answer : (k : ℕ) → k < length b.answers → (a : AnswerRecord) (x : Event)
-          → get_or b.answers k a ≡ answer_to (apply_of (system_after apply_of s (take k (events_read s ev room))) (get_or (events_read s ev room) k x))
+          → get_or b.answers k a
+          ≡ answer_to (apply_of (system_after apply_of s (take k (events_read s ev room))) (get_or (events_read s ev room) k x))
       batch_answer k l a x =
           ap (λ (xs : List AnswerRecord). get_or xs k a) batch_events.answers
           ∙ answer_at apply_of s (events_read s ev room) k (omega (arith, batch_count)) a x

@@ -55,7 +55,8 @@ module _ {ev o : List ℕ} {total : Run} {s : System} {at w : ℕ} {out : List �
   kept = ap length f.holds ∙ output_length f.done o (omega (arith, f.writes, f.fits))
 
   -- where a run on the rest reads and writes nothing
-  halted : (k : ℕ) → Ran step_of s (drop at ev) (length o - w) (stopped_with s k) → Came total o out (record { system = s; read = at; written = w; number = k })
+  halted : (k : ℕ) → Ran step_of s (drop at ev) (length o - w) (stopped_with s k)
+      → Came total o out (record { system = s; read = at; written = w; number = k })
   halted k q =
       let e = f.rest (stopped_with s k) q ∙ then_stopped f.done s k in
       rw e (record { told = rw (f.reads, f.writes); output = f.holds })
@@ -72,7 +73,8 @@ module _ {ev o : List ℕ} {total : Run} {s : System} {at w : ℕ} {out : List �
   next_inside g = let t = event_whole (drop at ev) g in (omega (arith, length-drop at ev, f.inside, t.inside), omega arith)
 
   -- the next record is refused, or its answer has no room
-  pub stops_here : {k : ℕ} → at < length ev → Stops (drop at ev) (length o - w) k → Came total o out (record { system = s; read = at; written = w; number = k })
+  pub stops_here : {k : ℕ} → at < length ev → Stops (drop at ev) (length o - w) k
+      → Came total o out (record { system = s; read = at; written = w; number = k })
   stops_here {k} more b = halted k (halts (simp length-drop (omega arith)) b)
 
   -- the part of the output that the next answer is lent
@@ -90,7 +92,8 @@ module _ {ev o : List ℕ} {total : Run} {s : System} {at w : ℕ} {out : List �
       (e ∙ ap (λ (n : ℕ). output_after q (drop n o)) (sym f.writes))
 
   -- the next event is answered: r is its reply, a its ANSWER, and last what the writer left of its part
-  module _ {e : Event} {n : ℕ} {r : Reply} {a : AnswerRecord} {last : List ℕ} (g : next_event (drop at ev) ≡ found.Event e n) (l : answer_size ≤ length o - w)
+  module _ {e : Event} {n : ℕ} {r : Reply} {a : AnswerRecord} {last : List ℕ} (g : next_event (drop at ev) ≡ found.Event e n)
+      (l : answer_size ≤ length o - w)
       (er : step_of s e ≡ r) (ea : a ≡ answer_to r) (el : last ≡ put_over (answer_bytes a) (take (length out - w) (drop w out))) where
     its_bytes : last ≡ output_after (answered r n) (drop w o)
     unfolding put_over

@@ -31,7 +31,8 @@ module _ (s : System) (e : Event) where
   apply_ill p = rw p
 
   -- what holds of both holds of the event
-  by_test : (P : Reply → Type 0) → (well_formed s ≡ true → P (step_of s e)) → (well_formed s ≡ false → P (refused_by s NotWellFormed)) → P (apply_of s e)
+  by_test : (P : Reply → Type 0) → (well_formed s ≡ true → P (step_of s e)) → (well_formed s ≡ false → P (refused_by s NotWellFormed))
+      → P (apply_of s e)
   unfolding checked
   by_test P = either P (well_formed s)
 

@@ -23,7 +23,8 @@ module _ (sizes : Sizes) (priority budget gang core state number served skipped 
       ≡ answered_by (system_of sizes priority budget gang core state number served skipped job (held_in o) occupant kept) o.answer
   unfolding system_of
   lent_same t e =
-      sym (ap (λ (o : Outcome). answered_by (system_of sizes priority budget gang core state number served skipped job (held_in o) occupant kept) o.answer) e)
+      sym (ap (λ (o : Outcome).
+      answered_by (system_of sizes priority budget gang core state number served skipped job (held_in o) occupant kept) o.answer) e)
 
 -- 14 comes before whatever the kind names
 pub applied_ill : (s : System) → well_formed s ≡ false → (n : Named) → applied_by s n ≡ answered_of (refused_by s NotWellFormed)

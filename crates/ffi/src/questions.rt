@@ -1,6 +1,7 @@
 // The eight questions, and why a thread isn't running. A caller keeps the system that it asks about, so only what is found is given.
 ghost use Rattle.std.specs.Prelude.{◌≡◌};
-ghost use Rattle.system.specs.Questions.{occupant_found, stopped_found, number_found, served_found, skipped_found, job_found, lowest_found, owing_found};
+ghost use Rattle.system.specs.Questions.{occupant_found, stopped_found, number_found, served_found, skipped_found, job_found, lowest_found};
+ghost use Rattle.system.specs.Questions.{owing_found};
 ghost use Rattle.reason.specs.Why.{why_of};
 ghost use Rattle.ffi.specs.Calls.{found_in, reason_found};
 

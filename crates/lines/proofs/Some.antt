@@ -12,10 +12,12 @@ use Rattle.lines.specs.laws.Put.{put_as}
 use Rattle.lines.specs.Listing.{some_or}
 
 module _ (other : List ℕ) (n : ℕ) {before after : List ℕ} {at next : ℕ} where
-  pub put_other : {most : ℕ} → n ≡ no_holder → Put other most before after at next → most ≤ places8 → Put (some_or other n) places8 before after at next
+  pub put_other : {most : ℕ} → n ≡ no_holder → Put other most before after at next → most ≤ places8
+      → Put (some_or other n) places8 before after at next
   unfolding some_or
   put_other e p m = put_as p (rw (eq-eqb n no_holder e)) m
 
-  pub put_some : (n ≡ no_holder → ⊥) → Put (numeral ten true places8 n) places8 before after at next → Put (some_or other n) places8 before after at next
+  pub put_some : (n ≡ no_holder → ⊥) → Put (numeral ten true places8 n) places8 before after at next
+      → Put (some_or other n) places8 before after at next
   unfolding some_or
   put_some e p = put_as p (rw (ne_eqb n no_holder e)) (omega arith)

@@ -18,7 +18,8 @@ use Rattle.listed.specs.Reasons.{words_of, reason_line, explanation_text, reason
 pub said : (position t : ℕ) {r : Reason} (q : Reason) {which : ℕ} {before after : List ℕ} {n : ℕ} → r ≡ q → which ≡ reason_which r
     → Shown (thread_line_of position t (words_of q) which) before after n → Shown (reason_line position t r) before after n
 said position t {r} q {which} {before} {after} {n} e w p =
-    subst (λ (l : List ℕ). Shown l before after n) (ap (thread_line_of position t (words_of q)) (w ∙ ap reason_which e) ∙ ap (reason_line position t) (sym e)) p
+    subst (λ (l : List ℕ). Shown l before after n)
+    (ap (thread_line_of position t (words_of q)) (w ∙ ap reason_which e) ∙ ap (reason_line position t) (sym e)) p
 
 module _ (s : System) (position t : ℕ) {x : Explained} (f : x ≡ why_of s t) where
   -- its text, by the explanation that was found
@@ -30,5 +31,6 @@ module _ (s : System) (position t : ℕ) {x : Explained} (f : x ≡ why_of s t) 
       → Shown (reason_line position t r) before after n → Shown (reason_text s position t) before after n
   explained r {before} {after} {n} g p = subst (λ (l : List ℕ). Shown l before after n) (its (explanation.Reason r) g) p
 
-  pub unexplained : (refusal : Refusal) (before : List ℕ) → x.explanation ≡ explanation.Refused refusal → Shown (reason_text s position t) before before 0
+  pub unexplained : (refusal : Refusal) (before : List ℕ) → x.explanation ≡ explanation.Refused refusal
+      → Shown (reason_text s position t) before before 0
   unexplained refusal before g = subst (λ (l : List ℕ). Shown l before before 0) (its (explanation.Refused refusal) g) (shown_nothing before)

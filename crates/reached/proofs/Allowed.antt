@@ -33,7 +33,8 @@ module _ (b : Table) (a : Accepted b) (c : ℕ) where
       (run_keeps c (fresh_system b) (start_shaped b a) (start_formed b a) 0 (same_throughout max_cores c 0) es)
 
   -- ", which changes no stop": stopped by the kept count exactly where by the true sum
-  pub same_stops : (es : List Event) → stopped (after (fresh_system b) es) c ≡ truly_stopped (after (fresh_system b) es) (history (fresh_system b) es) c
+  pub same_stops : (es : List Event)
+      → stopped (after (fresh_system b) es) c ≡ truly_stopped (after (fresh_system b) es) (history (fresh_system b) es) c
   same_stops es = stops_alike (after (fresh_system b) es) (run_formed b a es) c (history (fresh_system b) es) (kept_is es)
 
   -- an accepted TRAFFIC: its answer's value and number are by the true sum after it

@@ -83,7 +83,9 @@ module _ (s : System) (h : Shaped s) (w : WellFormed s) (m : ℕ) where
   counted_adds : (d n : ℕ) → d < s.table.sizes.cores → (c : ℕ)
       → Keeps c (event.Traffic d n) (reply_of (counted s d n) (Counted (stopped (counted s d n) d) (kept_in (counted s d n) d)))
   counted_adds d n l =
-      at_or_away (λ (c : ℕ). Keeps c (event.Traffic d n) (reply_of (counted s d n) (Counted (stopped (counted s d n) d) (kept_in (counted s d n) d)))) d
+      at_or_away
+      (λ (c : ℕ). Keeps c (event.Traffic d n) (reply_of (counted s d n) (Counted (stopped (counted s d n) d) (kept_in (counted s d n) d))))
+      d
       (λ k. get_or-set_same s.kept d (sum_of (kept_in s d) n) 0 in_room ∙ rw (eq-eqb d d refl) (kept_grows (kept_in s d) m n k))
       (λ c away k. get_or-set_other s.kept d c (sum_of (kept_in s d) n) 0 away ∙ rw (ne_eqb d c (λ e. away (sym e))) (omega arith))
     where

@@ -8,6 +8,6 @@ use Rattle.system.specs.System.{fresh_system}
 use Rattle.system.specs.Events.{apply_of}
 use Rattle.reached.specs.Reached.{after}
 
--- the answer to "RELEASE" of gang g after some events from table b: in the history it stands right after theirs (Runs, entry-next)
+-- the answer to "RELEASE" of gang g after some events from table b: in the history it stands right after theirs (`entry_next` of Runs)
 abbrev pub release_after : Table → List Event → ℕ → Answer
 release_after b before g = (apply_of (after (fresh_system b) before) (event.Release g)).answer

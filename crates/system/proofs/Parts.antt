@@ -34,7 +34,8 @@ put_refused put e = sym (ap (λ (x : Stepped). reply_of (put x.held) x.answer) e
 -- thread t has become v, and its core owes
 pub put_turned : (s : System) (sizes : Sizes) (core state : List ℕ) (held : Held) (occupant : List ℕ) (t v : ℕ) {state' : List ℕ} {r : Stepped}
     → state' ≡ set state t v → lock_of r.held occupant ≡ owe_of (lock_of held occupant) (core_of core t) → r.answer ≡ Done
-    → reply_of (turned (thread_parts s sizes core state held occupant) t v) Done ≡ reply_of (thread_parts s sizes core state' r.held occupant) r.answer
+    → reply_of (turned (thread_parts s sizes core state held occupant) t v) Done
+    ≡ reply_of (thread_parts s sizes core state' r.held occupant) r.answer
 put_turned s sizes core state held occupant t v e l d = sym (rw (e, l, d))
 
 module _ (s : System) (sizes : Sizes) (gang core state number served skipped job : List ℕ) (held : Held) (g : ℕ) where
@@ -58,7 +59,8 @@ module _ (s : System) (sizes : Sizes) (priority gang core state : List ℕ) (hel
   abbrev serviced : System
   serviced = serve_parts s sizes priority gang core state held occupant
 
-  pub put_serviced : {occupant' : List ℕ} {held' : Held} {o : ℕ} → c < sizes.cores → lock_of held' occupant' ≡ served_lock serviced c → o ≡ get_or occupant' c 255
+  pub put_serviced : {occupant' : List ℕ} {held' : Held} {o : ℕ} → c < sizes.cores → lock_of held' occupant' ≡ served_lock serviced c
+      → o ≡ get_or occupant' c 255
       → serve_step serviced c ≡ reply_of (serve_parts s sizes priority gang core state held' occupant') (Occupant o)
   put_serviced {occupant'} {held'} h l o =
       serve_done serviced c h

@@ -4,7 +4,8 @@ ghost use Rattle.std.specs.Prelude.{◌≡◌};
 ghost use Rattle.table.specs.Numbers.{finished, waiting};
 ghost use Rattle.lock.specs.Serve.{lock_of};
 ghost use Rattle.system.specs.System.{with_lock};
-ghost use Rattle.system.specs.Events.{reply_of, refused_by, checked, release_step, leave_step, wake_step, serve_step, traffic_step, tick_step, apply_of};
+ghost use Rattle.system.specs.Events.{reply_of, refused_by, checked, release_step, leave_step, wake_step, serve_step, traffic_step, tick_step};
+ghost use Rattle.system.specs.Events.{apply_of};
 
 use crate::steps::Stepped;
 use crate::{System, steps};

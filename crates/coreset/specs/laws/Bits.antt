@@ -1,6 +1,7 @@
 -- The bits of a number: what `with_bit` does to each, what the code's masks come to, and that numbers with the same bits are equal. For any width.
 use Rattle.std.specs.Prelude.{ℕ, zero, suc, ◌+◌, ◌-◌, ◌*◌, ◌/◌, ◌%◌, ◌^◌, ◌≤◌, ◌<◌, min, max, ◌≡◌}
-use Rattle.std.proofs.Common.{sym, ap, ap₂, ◌∙◌, subst, lt_of_lt_of_le, mul_assoc, mod-eq_of_lt, mod-lt, div-add-mod', div-one, pow-suc, mul_comm, add-one, one-add, arith, pow-add, pow_mono, pow_pos, shr-shr, shr_lt}
+use Rattle.std.proofs.Common.{sym, ap, ap₂, ◌∙◌, subst, lt_of_lt_of_le, mul_assoc, mod-eq_of_lt, mod-lt, div-add-mod', div-one, pow-suc, mul_comm}
+use Rattle.std.proofs.Common.{add-one, one-add, arith, pow-add, pow_mono, pow_pos, shr-shr, shr_lt}
 use Rattle.std.proofs.Math.Nat.{mod-mod}
 use Rattle.std.proofs.Math.Decide.{dec_lt}
 use Rattle.std.proofs.Math.Arith.{digits_mod, digits_div, digits_lt, lt-one}

@@ -1,6 +1,7 @@
 -- The laws of core sets, for any number of cores: membership after set and clear, bounds, union, and that a set is what its members are.
 use Rattle.std.specs.Prelude.{ℕ, zero, suc, ◌+◌, ◌*◌, ◌/◌, ◌%◌, ◌^◌, ◌≤◌, ◌<◌, min, max, ◌≡◌, refl, Bool, true, false, ◌||◌, ◌&&◌, T, eqb}
-use Rattle.std.proofs.Common.{sym, ap, ◌∙◌, subst, lt_of_lt_of_le, pow-suc, zero-mul, div-lt_iff_lt-mul, arith, pow_mono, pow_pos, shr-shr, eq-eqb, ne_eqb, eqb-true, lt-ltb, le-ltb}
+use Rattle.std.proofs.Common.{sym, ap, ◌∙◌, subst, lt_of_lt_of_le, pow-suc, zero-mul, div-lt_iff_lt-mul, arith, pow_mono, pow_pos, shr-shr, eq-eqb}
+use Rattle.std.proofs.Common.{ne_eqb, eqb-true, lt-ltb, le-ltb}
 use Rattle.std.proofs.Math.Bool.{or-true, or-false}
 use Rattle.std.proofs.Math.Nat.{zero-div, zero-mod}
 use Rattle.std.proofs.Math.Decide.{ℕ_discrete, dec_lt}

@@ -54,7 +54,8 @@ raised_fits n h = go (dec_lt n last_number)
     go (no l) = let e : raised n ≡ n = raised_last n (omega arith) in omega arith
 
 -- no number passes the last one
-raised_all_fit : (xs : List ℕ) (g : ℕ) → length xs ≡ 32 → ((d : ℕ) → get_or xs d 0 ≤ last_number) → (d : ℕ) → get_or (raised_at xs g) d 0 ≤ last_number
+raised_all_fit : (xs : List ℕ) (g : ℕ) → length xs ≡ 32 → ((d : ℕ) → get_or xs d 0 ≤ last_number) → (d : ℕ)
+    → get_or (raised_at xs g) d 0 ≤ last_number
 raised_all_fit xs g n h =
     at_or_away (λ (d : ℕ). get_or (raised_at xs g) d 0 ≤ last_number) g (here (dec_lt g 32))
     (λ d ne. let e = raised_other xs g d ne in let k = h d in omega arith)

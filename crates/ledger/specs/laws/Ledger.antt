@@ -13,7 +13,8 @@ pub raised_last : (n : ℕ) → last_number ≤ n → raised n ≡ n
 unfolding raised
 raised_last n h = rw (le-ltb n last_number h)
 
-raised_same : (counts : List ℕ) (g : ℕ) → g < length counts → get_or counts g 0 < last_number → get_or (raised_at counts g) g 0 ≡ get_or counts g 0 + 1
+raised_same : (counts : List ℕ) (g : ℕ) → g < length counts → get_or counts g 0 < last_number
+    → get_or (raised_at counts g) g 0 ≡ get_or counts g 0 + 1
 raised_same counts g l h = get_or-set_same counts g (raised (get_or counts g 0)) 0 l ∙ raised_below (get_or counts g 0) h
 
 pub raised_other : (counts : List ℕ) (g d : ℕ) → (d ≡ g → ⊥) → get_or (raised_at counts g) d 0 ≡ get_or counts d 0
@@ -76,7 +77,8 @@ served_here l g s h n k = record {
   job_number = get_or-set_same l.job g _ 0 (let e = s.job_size in omega arith) ∙ raised_below (number_at l g) n;
 }
 
-pub skipped_here : (l : Ledger) (g : ℕ) → Sized l → g < 32 → number_at l g < last_number → skipped_at l g < last_number → WasSkipped l (skipped_of l g) g
+pub skipped_here : (l : Ledger) (g : ℕ) → Sized l → g < 32 → number_at l g < last_number → skipped_at l g < last_number
+    → WasSkipped l (skipped_of l g) g
 skipped_here l g s h n k = record {
   next_number = raised_same l.number g (let e = s.number_size in omega arith) n;
   served_stays = refl;

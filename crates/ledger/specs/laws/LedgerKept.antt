@@ -65,7 +65,8 @@ served_agrees l m g a w =
     let j : job_at m g ≡ number_at l g + 1 = w.job_number in
     record { job_within = omega arith; adds_up = omega (arith, a.adds_up) }
 
-module _ (gangs : ℕ) (l : Ledger) (g : ℕ) (s : Sized l) (k : LedgerOk gangs l) (h : g < gangs) (w : gangs ≤ 32) (n : number_at l g < last_number) where
+module _ (gangs : ℕ) (l : Ledger) (g : ℕ) (s : Sized l) (k : LedgerOk gangs l) (h : g < gangs) (w : gangs ≤ 32)
+    (n : number_at l g < last_number) where
   pub serve_raises : WasServed l (served_of l g) g
   serve_raises = served_here l g s (omega arith) n (served_below gangs l g k h n)
 

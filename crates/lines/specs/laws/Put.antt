@@ -1,6 +1,7 @@
 -- Bytes put one after the other are put together.
 use Rattle.std.specs.Prelude.{ℕ, suc, ◌+◌, ◌≤◌, ◌<◌, ◌≡◌, refl, List, [], ◌∷◌, ◌++◌, length, get_or, take, drop, set}
-use Rattle.std.proofs.Common.{sym, ap, ◌∙◌, append_assoc, length-append, length-drop, length-take, take-append-drop, drop-drop, take_at, drop_at, drop-cons, arith, add-zero, add_assoc}
+use Rattle.std.proofs.Common.{sym, ap, ◌∙◌, append_assoc, length-append, length-drop, length-take, take-append-drop, drop-drop, take_at, drop_at}
+use Rattle.std.proofs.Common.{drop-cons, arith, add-zero, add_assoc}
 use Rattle.std.proofs.lemmas.List.{set_at}
 use Rattle.lines.specs.Put.{place, Put}
 

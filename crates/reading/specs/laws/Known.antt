@@ -12,7 +12,8 @@ use Rattle.wire.specs.declared.table_record.NextTableRecord.{NextTableRecord}
 use Rattle.wire.specs.declared.table_record.NextTableRecord.TheVariants as found
 use Rattle.wire.specs.declared.table_record.TableRecord.{TableRecord}
 use Rattle.wire.specs.declared.table_record.TableRecord.TheVariants as put
-use Rattle.reading.specs.Taken.{verdict_number, record_refused, record_accepted, with_cores, with_gang, with_thread, count_fits, gang_fits, thread_fits}
+use Rattle.reading.specs.Taken.{verdict_number, record_refused, record_accepted, with_cores, with_gang, with_thread, count_fits, gang_fits}
+use Rattle.reading.specs.Taken.{thread_fits}
 use Rattle.reading.specs.Taken.{cores_taken, gang_taken, thread_taken, record_taken}
 use Rattle.reading.specs.Turn.{table_turn_with, table_turn}
 
@@ -24,7 +25,8 @@ module _ (b : Table) where
   cores_known n = go (eqb b.sizes.cores 0) (count_fits n)
     where
       go : (x y : Bool)
-          → verdict_number (cond x (cond y (record_accepted (with_cores b n)) (record_refused b OutOfRange)) (record_refused b NotCoresFirst)).verdict ≤ 7
+          → verdict_number
+          (cond x (cond y (record_accepted (with_cores b n)) (record_refused b OutOfRange)) (record_refused b NotCoresFirst)).verdict ≤ 7
       go false y = omega arith
       go true false = omega arith
       go true true = omega arith

@@ -26,7 +26,8 @@ module _ (d : ℕ) (b : Table) (at : ℕ) (s : List ℕ) where
     there : length s ≡ 0 → ⊥
     there e = omega arith
 
-    pub read_stop : (refusal : Refusal) → (table_turn d b s).taken.verdict ≡ Refused refusal → read_from (suc n) d b at s ≡ told (Refused refusal) b at
+    pub read_stop : (refusal : Refusal) → (table_turn d b s).taken.verdict ≡ Refused refusal
+        → read_from (suc n) d b at s ≡ told (Refused refusal) b at
     unfolding read_from
     read_stop refusal v = rw (ne_eqb (length s) 0 there, v)
 

@@ -43,7 +43,8 @@ abbrev pub turn : ℕ → Taken → TableTurn
 turn n t = record { taken = t; size = n }
 
 module _ (d : ℕ) (b : Table) (s : List ℕ) where
-  pub read : (one : TableRecord) (n : ℕ) (t : Taken) → next_table_record s ≡ found.Record one n → t ≡ record_taken d b one → turn n t ≡ table_turn d b s
+  pub read : (one : TableRecord) (n : ℕ) (t : Taken) → next_table_record s ≡ found.Record one n → t ≡ record_taken d b one
+      → turn n t ≡ table_turn d b s
   unfolding table_turn
   read one n t f e = ap (turn n) e ∙ sym (ap (table_turn_with d b) f)
 

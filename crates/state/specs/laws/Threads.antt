@@ -57,7 +57,8 @@ module _ (gang : List ℕ) (g : ℕ) where
 
       go : Dec (t ≡ n) → (t < n → get_or r t 0 ≡ ready) → get_or (cond (eqb (gang_of gang n) g) (set r n ready) r) t 0 ≡ ready
       go (yes w) h =
-          rw (eq-eqb (gang_of gang n) g (ap (gang_of gang) (sym w) ∙ e), w) (get_or-set_same r n ready 0 (let k = readied_length n state in omega arith))
+          rw (eq-eqb (gang_of gang n) g (ap (gang_of gang) (sym w) ∙ e), w)
+          (get_or-set_same r n ready 0 (let k = readied_length n state in omega arith))
       go (no ne) h =
           let k : get_or r t 0 ≡ ready = h (omega arith) in
           either (λ (x : List ℕ). get_or x t 0 ≡ ready) (eqb (gang_of gang n) g) (λ q. get_or-set_other r n t ready 0 ne ∙ k) (λ q. k)
@@ -85,7 +86,8 @@ module _ (state gang : List ℕ) (g n : ℕ) where
   unfolding all_finished finished_in
   all_finished_lem e t l q =
       eqb-true (get_or state t 0) finished
-      (implied (eqb (gang_of gang t) g) (eqb (get_or state t 0) finished) (every_true n (finished_in state gang g) e t l) (eq-eqb (gang_of gang t) g q))
+      (implied (eqb (gang_of gang t) g) (eqb (get_or state t 0) finished) (every_true n (finished_in state gang g) e t l)
+      (eq-eqb (gang_of gang t) g q))
 
   pub make_finished : ((t : ℕ) → t < n → gang_of gang t ≡ g → get_or state t 0 ≡ finished) → all_finished state gang g n ≡ true
   unfolding all_finished finished_in

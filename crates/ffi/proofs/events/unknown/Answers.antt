@@ -10,4 +10,6 @@ returns-then-well_formed c =
 
 pub returns-else-well_formed : goal.returns-else-well_formed
 returns-else-well_formed c =
-    c.with_answer-else-well_formed.ensures ∙ ap answered_of (c.refused-else-well_formed.ensures ∙ sym (checked_no _ _ (sym c.well_formed-2.ensures ∙ c.if-well_formed.false)))
+    c.with_answer-else-well_formed.ensures
+    ∙ ap answered_of
+    (c.refused-else-well_formed.ensures ∙ sym (checked_no _ _ (sym c.well_formed-2.ensures ∙ c.if-well_formed.false)))

@@ -7,7 +7,8 @@ pub returns-then-sizes-eq0 : goal.returns-then-sizes-eq0
 returns-then-sizes-eq0 c = λ g x. c.refused.ensures _ _ g x ∙ sym (gang_first _ _ _ c.if-sizes-eq0.true)
 
 pub returns-then-sizes-ge-MAX_GANGS : goal.returns-then-sizes-ge-MAX_GANGS
-returns-then-sizes-ge-MAX_GANGS c = λ g x. c.refused-then-sizes-ge-MAX_GANGS.ensures _ _ g x ∙ sym (gang_many _ _ _ c.if-sizes-eq0.false c.if-sizes-ge-MAX_GANGS.true)
+returns-then-sizes-ge-MAX_GANGS c =
+    λ g x. c.refused-then-sizes-ge-MAX_GANGS.ensures _ _ g x ∙ sym (gang_many _ _ _ c.if-sizes-eq0.false c.if-sizes-ge-MAX_GANGS.true)
 
 pub returns-then-not-gang_fits : goal.returns-then-not-gang_fits
 returns-then-not-gang_fits c =

@@ -7,7 +7,8 @@ pub returns-then-sizes-eq0 : goal.returns-then-sizes-eq0
 returns-then-sizes-eq0 c = λ p m. c.refused.ensures p m _ _ ∙ sym (thread_first _ _ _ c.if-sizes-eq0.true)
 
 pub returns-then-sizes-ge-MAX_THREADS : goal.returns-then-sizes-ge-MAX_THREADS
-returns-then-sizes-ge-MAX_THREADS c = λ p m. c.refused-then-sizes-ge-MAX_THREADS.ensures p m _ _ ∙ sym (thread_many _ _ _ c.if-sizes-eq0.false c.if-sizes-ge-MAX_THREADS.true)
+returns-then-sizes-ge-MAX_THREADS c =
+    λ p m. c.refused-then-sizes-ge-MAX_THREADS.ensures p m _ _ ∙ sym (thread_many _ _ _ c.if-sizes-eq0.false c.if-sizes-ge-MAX_THREADS.true)
 
 pub returns-then-not-thread_fits : goal.returns-then-not-thread_fits
 returns-then-not-thread_fits c =
