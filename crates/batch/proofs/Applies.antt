@@ -1,4 +1,4 @@
--- Laws of `RanLaws`.
+-- Every run applies the events of the bytes that it read, and stops where document 01 says: `Applies` and `StopsAt` hold of it.
 use Rattle.std.specs.Prelude.{ℕ, zero, suc, ◌+◌, ◌≤◌, ◌≡◌, refl, List, [], ◌∷◌, length, take, drop}
 use Rattle.std.proofs.Common.{sym, ap, ◌∙◌, inl, inr, ⊎_elim, zero-add, suc-add, arith, length-take, length-drop, take-append-drop, take_all}
 use Rattle.std.proofs.Common.{drop-drop}

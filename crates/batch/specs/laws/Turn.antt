@@ -1,4 +1,4 @@
--- Laws of `TurnLaws`.
+-- What a turn comes to, as a case to take apart; and how long its answers are in bytes.
 use Rattle.std.specs.Prelude.{ℕ, ◌*◌, ◌≤◌, ◌≡◌, refl, List, [], ◌∷◌, ◌++◌, ltb, length}
 use Rattle.std.proofs.Common.{sym, ◌∙◌, append_assoc, arith, length-append, lt-ltb, le-ltb, ltb-true, ltb-false}
 use Rattle.std.proofs.Math.Path.{ap}

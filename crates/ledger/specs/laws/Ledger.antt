@@ -1,4 +1,4 @@
--- Laws of `LedgerLaws`.
+-- What a number raised comes to, and what a served and a skipped release do to each gang's numbers.
 use Rattle.std.specs.Prelude.{ℕ, ◌+◌, ◌≤◌, ◌<◌, ◌≡◌, refl, List, length, get_or}
 use Rattle.std.proofs.Common.{◌∙◌, arith, lt-ltb, le-ltb, length-set, get_or-set_same, get_or-set_other}
 use Rattle.ledger.specs.declared.Ledger.{Ledger}

@@ -1,4 +1,4 @@
--- Laws of `OwedLaws`.
+-- Which cores owe once a gang's threads are made ready: those that did, and those of its threads.
 use Prim.Native.Nat.{ℕ, zero, suc, ◌<◌, ◌≤◌, ◌^◌}
 use Rattle.std.specs.Prelude.{Bool, true, false, cond, ◌&&◌, ◌||◌, ◌≡◌, List, ◌⊎◌, eqb}
 use Rattle.std.proofs.Math.Bool.{or-false, or-true, or_assoc}
