@@ -9,8 +9,8 @@ use Rattle.wire.specs.Event.{next_event}
 use Rattle.wire.specs.laws.Reader.{event_cut, event_whole, event_shorter}
 use Rattle.wire.specs.declared.answer.AnswerRecord.{AnswerRecord}
 use Rattle.wire.specs.declared.event.Event.{Event}
-use Rattle.wire.specs.declared.event.NextEvent.{NextEvent}
-use Rattle.wire.specs.declared.event.NextEvent.TheVariants as found
+use Rattle.wire.specs.NextEvent.{NextEvent}
+use Rattle.wire.specs.NextEvent as found
 use Rattle.effects.specs.Run.{system_after, history_by}
 use Rattle.batch.specs.Turn.{Run, answer_to}
 use Rattle.batch.proofs.Bounds.{room_left, read_fits}

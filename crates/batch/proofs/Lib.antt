@@ -7,3 +7,4 @@ pub mod BatchLaws
 pub mod TwoBatches
 pub mod Lent
 pub mod Sofar
+pub mod OneTurn

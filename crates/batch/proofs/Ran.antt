@@ -11,7 +11,7 @@ use Rattle.wire.specs.Answer.{answer_size}
 use Rattle.wire.specs.Event.{next_event}
 use Rattle.wire.specs.laws.Reader.{event_whole}
 use Rattle.wire.specs.declared.event.Event.{Event}
-use Rattle.wire.specs.declared.event.NextEvent.TheVariants as found
+use Rattle.wire.specs.NextEvent as found
 use Rattle.batch.specs.Turn.{Run, stopped_with, answered}
 use Rattle.batch.specs.Stops.{Stops}
 use Rattle.batch.specs.laws.Turn.{Turned, stops, answers, turn_way, turn_stops, turn_answers, stops_some, bytes_length}

@@ -1,31 +1,22 @@
 -- What the loop of a batch keeps: the turns so far, then any run on what they left, come to the whole run.
-use Prim.Native.Nat.{ℕ, ◌+◌, ◌-◌, ◌≤◌, ◌<◌}
-use mathlib.Core.Path.{◌≡◌, refl, sym, ap, ap₂, ◌∙◌}
-use mathlib.Core.List.{List, [], ◌∷◌, ◌++◌, append-nil}
-use native.Mathlib.Nat.{sub-zero, sub-add-eq}
-use native.Mathlib.Omega.{arith}
-use borrow.Author.Tests.{le-leb}
+use Rattle.std.specs.Prelude.{ℕ, ◌+◌, ◌-◌, ◌≤◌, ◌<◌, ◌≡◌, refl, List, ◌++◌, Result, Ok, Err, length, take, drop}
+use Rattle.std.proofs.Common.{sym, ap, ap₂, ◌∙◌, arith, length-drop, drop-drop, take_at, drop_at}
+use Rattle.std.proofs.Math.Nat.{sub-zero, sub-add-eq}
+use Rattle.std.proofs.lemmas.List.{take_rest}
 use borrow.Rule.Slice.PartMut.{put_mid}
-use lib.ListN.{length, take, drop, length-drop}
-use lib.Seq.{drop-drop, take_at, drop_at}
 use Rattle.system.specs.Events.{step_of}
 use Rattle.system.specs.declared.System.{System}
-use Rattle.system.specs.declared.events.Reply.{Reply}
-use Rattle.wire.specs.Answer.{answer_bytes, answer_size, put_over}
-use Rattle.wire.specs.Event.{next_event}
-use Rattle.wire.specs.declared.answer.AnswerRecord.{AnswerRecord}
-use Rattle.wire.specs.declared.event.Event.{Event}
-use Rattle.wire.specs.declared.event.NextEvent.{NextEvent}
-use Rattle.wire.specs.declared.event.NextEvent.TheVariants as found
+use Rattle.wire.specs.Answer.{answer_size}
+use Rattle.wire.specs.declared.refusal.Refusal.{Refusal}
 use Rattle.wire.specs.laws.Reader.{event_whole}
-use Rattle.batch.specs.Turn.{Run, Came, wrote, written, output_after, stopped_with, answer_to, answered}
-use Rattle.batch.specs.Stops.{Stops}
-use Rattle.batch.specs.laws.Turn.{answer_length, bytes_length}
+use Rattle.batch.specs.Turn.{Run, Came, wrote, written, output_after, stopped_with, answered, turn_of, batched_with, turns_of, no_turns, end_number}
+use Rattle.batch.specs.declared.Batched.{Batched}
+use Rattle.batch.specs.laws.Turn.{Turned, stops, answers, turn_way, stops_some, bytes_length}
 use Rattle.batch.specs.Batch.{and_then, batch_ends, run_of}
 use Rattle.batch.specs.laws.AndThen.{then_assoc, then_first, then_stopped, written_then, output_then, output_length}
 use Rattle.batch.specs.laws.Ran.{Ran, ends, halts, goes}
 use Rattle.batch.proofs.Ran.{run_is}
-use Rattle.batch.proofs.Lent.{tail_part, put_tail}
+use Rattle.batch.proofs.Lent.{put_tail}
 
 -- ev and o are the events and the output handed in; s, out, and the places at of ev and w of out are where the loop stands
 pub record Sofar (ev o : List ℕ) (total : Run) (s : System) (at w : ℕ) (out : List ℕ) : Type 0 where
@@ -55,71 +46,89 @@ module _ {ev o : List ℕ} {total : Run} {s : System} {at w : ℕ} {out : List �
   kept = ap length f.holds ∙ output_length f.done o (omega (arith, f.writes, f.fits))
 
   -- where a run on the rest reads and writes nothing
-  halted : (k : ℕ) → Ran step_of s (drop at ev) (length o - w) (stopped_with s k)
-      → Came total o out (record { system = s; read = at; written = w; number = k })
-  halted k q =
-      let e = f.rest (stopped_with s k) q ∙ then_stopped f.done s k in
+  halted : (end : Result Unit Refusal) → Ran step_of s (drop at ev) (length o - w) (stopped_with s (end_number end))
+      → Came total o out (batched_with s (turns_of at w end))
+  halted end q =
+      let e = f.rest (stopped_with s (end_number end)) q ∙ then_stopped f.done s (end_number end) in
       rw e (record { told = rw (f.reads, f.writes); output = f.holds })
 
-  pub ends_here : length ev ≤ at → Came total o out (record { system = s; read = at; written = w; number = 0 })
-  ends_here h = halted 0 (ends (simp length-drop (omega arith)))
+  pub ends_here : length ev ≤ at → Came total o out (batched_with s (turns_of at w (Ok tt)))
+  ends_here h = halted (Ok tt) (ends (simp length-drop (omega arith)))
 
-  -- what the reader of a single record found, lent the events from the place on
-  pub next_is : {x y : NextEvent} → x ≡ next_event (take (length ev - at) (drop at ev)) → x ≡ y → next_event (drop at ev) ≡ y
-  next_is p q = ap next_event (sym (tail_part at ev)) ∙ sym p ∙ q
-
-  -- its record lies within the events, and is not empty
-  pub next_inside : {e : Event} {n : ℕ} → next_event (drop at ev) ≡ found.Event e n → (at + n ≤ length ev) × (0 < n)
-  next_inside g = let t = event_whole (drop at ev) g in (omega (arith, length-drop at ev, f.inside, t.inside), omega arith)
-
-  -- the next record is refused, or its answer has no room
-  pub stops_here : {k : ℕ} → at < length ev → Stops (drop at ev) (length o - w) k
-      → Came total o out (record { system = s; read = at; written = w; number = k })
-  stops_here {k} more b = halted k (halts (simp length-drop (omega arith)) b)
-
-  -- the part of the output that the next answer is lent
-  pub left : take (length out - w) (drop w out) ≡ drop w o
+  -- the part of the output that a turn is lent
+  left : take (length out - w) (drop w out) ≡ drop w o
   left =
-      tail_part w out ∙ ap (drop w) f.holds
+      take_rest out w ∙ ap (drop w) f.holds
       ∙ rw (← f.writes) (drop_at (wrote f.done) (drop (written f.done) o) (written f.done) refl)
 
-  -- what comes back of the output: what was written before, and what the writer left of its part
-  back : (q : Run) (last : List ℕ) → last ≡ output_after q (drop w o)
-      → put_mid w (length out - w) out last ≡ wrote f.done ++ output_after q (drop (written f.done) o)
-  back q last e =
+  -- what comes back of the output: what was written before, and what the turn left of its part
+  back : {last y : List ℕ} → last ≡ y → put_mid w (length out - w) out last ≡ wrote f.done ++ y
+  back {last} e =
       put_tail w out last (omega (arith, kept, f.fits))
-      ∙ ap₂ (λ (x y : List ℕ). x ++ y) (ap (take w) f.holds ∙ take_at (wrote f.done) (drop (written f.done) o) w f.writes)
-      (e ∙ ap (λ (n : ℕ). output_after q (drop n o)) (sym f.writes))
+      ∙ ap₂ (λ (x y : List ℕ). x ++ y) (ap (take w) f.holds ∙ take_at (wrote f.done) (drop (written f.done) o) w f.writes) e
 
-  -- the next event is answered: r is its reply, a its ANSWER, and last what the writer left of its part
-  module _ {e : Event} {n : ℕ} {r : Reply} {a : AnswerRecord} {last : List ℕ} (g : next_event (drop at ev) ≡ found.Event e n)
-      (l : answer_size ≤ length o - w)
-      (er : step_of s e ≡ r) (ea : a ≡ answer_to r) (el : last ≡ put_over (answer_bytes a) (take (length out - w) (drop w out))) where
-    its_bytes : last ≡ output_after (answered r n) (drop w o)
-    unfolding put_over
-    its_bytes =
-        el ∙ ap (put_over (answer_bytes a)) left
-        ∙ rw (
-          ea,
-          append-nil (answer_bytes (answer_to r)),
-          le-leb (length (answer_bytes (answer_to r))) (length (drop w o)) (simp length-drop (omega (arith, answer_length (answer_to r)))),
-        )
+  -- what a turn came to that was lent the events from their place on and the output from its place on
+  abbrev pub Turn : List ℕ → Batched → Type 0
+  Turn last b =
+      Came (turn_of step_of s (take (length ev - at) (drop at ev)) (length (take (length out - w) (drop w out)))) (take (length out - w) (drop w out)) last b
 
-    its_length : written (answered r n) ≡ answer_size
-    its_length = bytes_length (answer_to r ∷ [])
+  its : {last : List ℕ} {b : Batched} → Turn last b → Came (turn_of step_of s (drop at ev) (length o - w)) (drop w o) last b
+  its c = rw (take_rest ev at, left, length-drop w o) at c
 
-    pub goes_on : Sofar ev o total r.system (at + n) (w + answer_size) (put_mid w (length out - w) out last)
-    goes_on =
-        let q = answered r n in
-        record {
-          done = and_then f.done q;
-          reads = rw f.reads;
-          writes = written_then f.done q ∙ rw (f.writes, its_length);
-          inside = (next_inside g).0;
-          fits = omega (arith, f.fits);
-          holds = back q last its_bytes ∙ output_then f.done q o;
-          rest = λ p y.
-              f.rest (and_then q p)
-              (rw (← er) (goes g l (rw (← er, ← drop-drop n at ev, sub-add-eq (length o) w answer_size) at y)))
-              ∙ sym (then_assoc f.done q p);
-        }
+  -- it stops: nothing is read or written
+  pub halts_here : {last : List ℕ} {s' : System} (refusal : Refusal) → at < length ev → Turn last (batched_with s' (no_turns refusal))
+      → Came total o (put_mid w (length out - w) out last) (batched_with s' (turns_of at w (Err refusal)))
+  halts_here {last} {s'} refusal more c = by (turn_way step_of s (drop at ev) (length o - w)) (its c)
+    where
+      by : {t : Run} → Turned step_of s (drop at ev) (length o - w) t → Came t (drop w o) last (batched_with s' (no_turns refusal))
+          → Came total o (put_mid w (length out - w) out last) (batched_with s' (turns_of at w (Err refusal)))
+      by (stops x) d =
+          let whole : put_mid w (length out - w) out last ≡ out = back d.output ∙ rw (← f.writes) (sym f.holds) in
+          rw (ap (λ (b : Batched). b.system) d.told, whole)
+          (halted (Err refusal) (rw (ap (λ (b : Batched). b.number) d.told) (halts {ev = drop at ev} (simp length-drop (omega arith)) x)))
+      by (answers g l) d =
+          let t = event_whole (drop at ev) g in
+          absurd (omega (arith, ap (λ (b : Batched). b.read) d.told))
+
+  -- it answers the next event
+  module _ {last : List ℕ} {s' : System} {n : ℕ} (c : Turn last (batched_with s' (turns_of n answer_size (Ok tt)))) where
+    -- whose record lies within the events, and is not empty
+    pub next_inside : (at + n ≤ length ev) × (0 < n)
+    next_inside = by (turn_way step_of s (drop at ev) (length o - w)) (its c)
+      where
+        by : {t : Run} → Turned step_of s (drop at ev) (length o - w) t → Came t (drop w o) last (batched_with s' (turns_of n answer_size (Ok tt)))
+            → (at + n ≤ length ev) × (0 < n)
+        by (stops x) d = absurd (omega (arith, stops_some x, ap (λ (b : Batched). b.number) d.told))
+        by (answers g l) d =
+            let t = event_whole (drop at ev) g in
+            let same = ap (λ (b : Batched). b.read) d.told in
+            (omega (arith, length-drop at ev, f.inside, t.inside, same), omega (arith, same))
+
+    pub room_after : w + answer_size ≤ length o
+    room_after = by (turn_way step_of s (drop at ev) (length o - w)) (its c)
+      where
+        by : {t : Run} → Turned step_of s (drop at ev) (length o - w) t → Came t (drop w o) last (batched_with s' (turns_of n answer_size (Ok tt)))
+            → w + answer_size ≤ length o
+        by (stops x) d = absurd (omega (arith, stops_some x, ap (λ (b : Batched). b.number) d.told))
+        by (answers g l) d = omega (arith, f.fits)
+
+    pub goes_on : Sofar ev o total s' (at + n) (w + answer_size) (put_mid w (length out - w) out last)
+    goes_on = by (turn_way step_of s (drop at ev) (length o - w)) (its c)
+      where
+        by : {t : Run} → Turned step_of s (drop at ev) (length o - w) t → Came t (drop w o) last (batched_with s' (turns_of n answer_size (Ok tt)))
+            → Sofar ev o total s' (at + n) (w + answer_size) (put_mid w (length out - w) out last)
+        by (stops x) d = absurd (omega (arith, stops_some x, ap (λ (b : Batched). b.number) d.told))
+        by (answers {e = e} {n = m} g l) d =
+            let q = answered (step_of s e) m in
+            rw (ap (λ (b : Batched). b.system) d.told, ap (λ (b : Batched). b.read) d.told)
+            (record {
+              done = and_then f.done q;
+              reads = rw f.reads;
+              writes = written_then f.done q ∙ rw (f.writes, bytes_length q.answers);
+              inside = let t = event_whole (drop at ev) g in omega (arith, length-drop at ev, f.inside, t.inside);
+              fits = omega (arith, f.fits);
+              holds = back d.output ∙ rw (← f.writes) (output_then f.done q o);
+              rest = λ p y.
+                  f.rest (and_then q p) (goes g l (rw (← drop-drop m at ev, sub-add-eq (length o) w answer_size) at y))
+                  ∙ sym (then_assoc f.done q p);
+            })

@@ -1,17 +1,17 @@
 -- The events of some bytes, and the ANSWER records of a run of events.
-use Rattle.std.specs.Prelude.{ℕ, zero, suc, List, [], ◌∷◌, map, length, drop}
+use Rattle.std.specs.Prelude.{ℕ, zero, suc, List, [], ◌∷◌, Ok, map, length, drop}
 use Rattle.system.specs.declared.System.{System}
 use Rattle.system.specs.declared.events.Reply.{Reply}
 use Rattle.wire.specs.Event.{next_event}
 use Rattle.wire.specs.declared.answer.AnswerRecord.{AnswerRecord}
 use Rattle.wire.specs.declared.event.Event.{Event}
-use Rattle.wire.specs.declared.event.NextEvent.{NextEvent}
-use Rattle.wire.specs.declared.event.NextEvent.TheVariants as found
+use Rattle.wire.specs.NextEvent.{NextEvent}
+use Rattle.wire.specs.NextEvent as found
 use Rattle.effects.specs.Run.{record_in, history_by}
 
 -- an event and those after its record
 abbrev pub and_after : NextEvent → (ℕ → List Event) → List Event
-and_after (found.Event e next) after = e ∷ after next
+and_after (Ok r) after = r.found ∷ after r.next
 and_after (found.Refused refusal) after = []
 
 -- the events of some bytes, up to the first record that is refused, in at most n records

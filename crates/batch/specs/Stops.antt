@@ -4,7 +4,7 @@ use Rattle.wire.specs.Answer.{answer_size}
 use Rattle.wire.specs.Event.{next_event}
 use Rattle.wire.specs.Refusal.{number_of}
 use Rattle.wire.specs.declared.event.Event.{Event}
-use Rattle.wire.specs.declared.event.NextEvent.TheVariants as found
+use Rattle.wire.specs.NextEvent as found
 use Rattle.wire.specs.declared.refusal.Refusal.{Refusal}
 use Rattle.wire.specs.declared.refusal.Refusal.TheVariants.{NoRoom}
 

@@ -1,5 +1,5 @@
 -- One turn of a batch, in document 01's order: "four bytes left (1); 2; 3; whole record (1); 13; then" the event.
-use Rattle.std.specs.Prelude.{ℕ, ◌≡◌, List, [], ◌∷◌, ◌++◌, cond, ltb, length, drop}
+use Rattle.std.specs.Prelude.{ℕ, ◌≡◌, List, [], ◌∷◌, ◌++◌, Result, Ok, Err, cond, ltb, length, drop}
 use Rattle.system.specs.declared.System.{System}
 use Rattle.system.specs.declared.events.Reply.{Reply}
 use Rattle.wire.specs.Answer.{record_of, answer_bytes, answer_size}
@@ -7,10 +7,10 @@ use Rattle.wire.specs.Event.{next_event}
 use Rattle.wire.specs.Refusal.{number_of}
 use Rattle.wire.specs.declared.answer.AnswerRecord.{AnswerRecord}
 use Rattle.wire.specs.declared.event.Event.{Event}
-use Rattle.wire.specs.declared.event.NextEvent.{NextEvent}
-use Rattle.wire.specs.declared.event.NextEvent.TheVariants as found
+use Rattle.wire.specs.NextEvent.{NextEvent}
+use Rattle.wire.specs.NextEvent as found
+use Rattle.wire.specs.declared.refusal.Refusal.{Refusal}
 use Rattle.wire.specs.declared.refusal.Refusal.TheVariants.{NoRoom}
-use Rattle.lock.specs.declared.Held.{Held}
 use Rattle.batch.specs.declared.Batched.{Batched}
 use Rattle.batch.specs.declared.turns.Turns.{Turns}
 
@@ -48,12 +48,26 @@ pub record Came (r : Run) (before after : List ℕ) (b : Batched) : Type 0 where
 abbrev pub stopped_with : System → ℕ → Run
 stopped_with s n = record { system = s; read = 0; answers = []; number = n }
 
--- what the turns come to, beside the system of the parts that they were lent
-abbrev pub batched_with : System → Turns → Batched
-batched_with s t = record { system = s; read = t.read; written = t.written; number = t.number }
+-- the number that turns end with: 0 at the end of the events
+abbrev pub end_number : Result Unit Refusal → ℕ
+end_number (Ok done) = 0
+end_number (Err refusal) = number_of refusal
 
-abbrev pub turns_of : Held → (read written number : ℕ) → Turns
-turns_of h at w k = record { held = h; read = at; written = w; number = k }
+-- what the turns come to, beside the system after them
+abbrev pub batched_with : System → Turns → Batched
+batched_with s t = record { system = s; read = t.read; written = t.written; number = end_number t.end }
+
+abbrev pub turns_of : (read written : ℕ) → Result Unit Refusal → Turns
+turns_of at w end = record { read = at; written = w; end = end }
+
+-- turns that read and write nothing
+abbrev pub no_turns : Refusal → Turns
+no_turns refusal = turns_of 0 0 (Err refusal)
+
+-- one turn, by the bytes that it read or why it stopped
+abbrev pub turns_in : Result ℕ Refusal → Turns
+turns_in (Ok next) = turns_of next answer_size (Ok tt)
+turns_in (Err refusal) = no_turns refusal
 
 -- the ANSWER to an event: the owing and the locked cores are those after it
 abbrev pub answer_to : Reply → AnswerRecord
@@ -65,7 +79,7 @@ answered r next = record { system = r.system; read = next; answers = answer_to r
 
 -- "1, 2, 3" are the record question's; "13: the next answer has no room"
 abbrev pub turn_with : (System → Event → Reply) → System → ℕ → NextEvent → Run
-turn_with step s room (found.Event event next) = cond (ltb room answer_size) (stopped_with s (number_of NoRoom)) (answered (step s event) next)
+turn_with step s room (Ok r) = cond (ltb room answer_size) (stopped_with s (number_of NoRoom)) (answered (step s r.found) r.next)
 turn_with step s room (found.Refused refusal) = stopped_with s (number_of refusal)
 
 -- step says what an event does; s is the system, ev the bytes left, room the length of the output left

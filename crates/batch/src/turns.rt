@@ -1,92 +1,77 @@
 // The turns of a batch: each reads the event record at the start of the bytes left, and answers it at the start of the output left.
 ghost use Rattle.std.specs.Prelude.{◌≡◌, length};
 ghost use Rattle.system.specs.Events.{step_of};
-ghost use Rattle.system.specs.Parts.{system_of};
-ghost use Rattle.wire.specs.Refusal.{number_of};
 ghost use Rattle.batch.specs.Batch.{run_of};
-ghost use Rattle.batch.specs.Turn.{Came, turns_of, batched_with};
+ghost use Rattle.batch.specs.Turn.{Came, turn_of, turns_in, no_turns, batched_with};
 
-use lock::Held;
-use table::Sizes;
-use wire::answer::ANSWER_SIZE;
-use wire::event::NextEvent;
+use system::System;
+use wire::answer::{ANSWER_SIZE, record_of, write_answer};
+use wire::event::Event;
+use wire::of_record::Next;
 use wire::refusal::Refusal;
 
-// What the turns come to, beside the parts that they are lent.
+// What the turns come to, beside the system: the bytes read and written, and how they end, at the end of the events or refused.
 #[derive(Clone, Copy)]
 pub(crate) struct Turns {
-    pub held: Held,
     pub read: usize,
     pub written: usize,
-    pub number: u8,
+    pub end: Result<(), Refusal>,
 }
 
-// The turns before a record that is refused, or whose answer has no room.
-fn stopped(held: Held, read: usize, written: usize, refusal: Refusal) -> Turns
-    ensures { result ≡ turns_of held read written (number_of refusal) }
-{
-    Turns {
-        held,
-        read,
-        written,
-        number: wire::refusal::number_of(refusal),
+impl Turns {
+    // Nothing is read and nothing written.
+    pub(crate) fn none(refusal: Refusal) -> Turns
+        ensures { result ≡ no_turns refusal }
+    {
+        Turns {
+            read: 0,
+            written: 0,
+            end: Err(refusal),
+        }
     }
 }
 
-// Turn after turn: the record question comes first, then the room for the answer, and only then the event.
-pub(crate) fn take_turns<'a>(
-    sizes: Sizes,
-    priority: &'a [u8; 32],
-    budget: &'a [u32; 32],
-    gang: &'a [u8; 128],
-    core: &'a [u8; 128],
-    state: &'a mut [u8; 128],
-    number: &'a mut [u32; 32],
-    served: &'a mut [u32; 32],
-    skipped: &'a mut [u32; 32],
-    job: &'a mut [u32; 32],
-    mut held: Held,
-    occupant: &'a mut [u8; 32],
-    kept: &'a mut [u32; 32],
-    events: &'a [u8],
-    out: &'a mut [u8],
-) -> Turns
-    ensures { Came
-        (run_of step_of (length events.now)
-        (system_of sizes priority.now budget.now gang.now core.now state.old
-        number.old served.old skipped.old job.old held occupant.old kept.old)
-        events.now (length out.old)) out.old out.new
-        (batched_with
-        (system_of sizes priority.now budget.now gang.now core.now state.new
-        number.new served.new skipped.new job.new result.held occupant.new kept.new) result) }
+// Turn after turn, to the end of the events or a refusal. A record's length stands in it, so no iterator of the library goes over records.
+pub(crate) fn take_turns(system: &mut System, events: &[u8], out: &mut [u8]) -> Turns
+    ensures { Came (run_of step_of (length events.now) system.old events.now (length out.old))
+        out.old out.new (batched_with system.new result) }
 {
     let mut read: usize = 0;
     let mut written: usize = 0;
     while read < events.len() {
-        match wire::event::next_event(&events[read..]) {
-            NextEvent::Event { event, next } => {
-                if out.len() - written < ANSWER_SIZE {
-                    return stopped(held, read, written, Refusal::NoRoom);
-                }
-                let stepped = system::steps::step(
-                    sizes, priority, budget, gang, core, state, number, served, skipped, job, held,
-                    occupant, kept, event,
-                );
-                let after = stepped.held;
-                let outcome = stepped.answer;
-                let answer = wire::answer::record_of(outcome, after.owing, after.locked);
-                wire::answer::write_answer(&mut out[written..], answer);
-                held = after;
+        match turn(system, &events[read..], &mut out[written..]) {
+            Ok(next) => {
                 read += next;
                 written += ANSWER_SIZE;
             }
-            NextEvent::Refused(refusal) => return stopped(held, read, written, refusal),
+            Err(refusal) => {
+                return Turns {
+                    read,
+                    written,
+                    end: Err(refusal),
+                };
+            }
         }
     }
     Turns {
-        held,
         read,
         written,
-        number: 0,
+        end: Ok(()),
     }
+}
+
+// One turn: the record question comes first, then the room for the answer, and only then the event. It gives how many bytes it read.
+#[tactic(auto, using(crate::proofs::OneTurn::room_for), unfolding(crate::specs::Turn::turn_of))]
+fn turn(system: &mut System, events: &[u8], out: &mut [u8]) -> Result<usize, Refusal>
+    ensures { Came (turn_of step_of system.old events.now (length out.old))
+        out.old out.new (batched_with system.new (turns_in result)) }
+{
+    let Next { found, next } = wire::record::next::<Event>(events)?;
+    if out.len() < ANSWER_SIZE {
+        return Err(Refusal::NoRoom);
+    }
+    let answer = system.step(found);
+    let record = record_of(answer, system.lock.owing, system.lock.locked);
+    write_answer(out, record)?;
+    Ok(next)
 }

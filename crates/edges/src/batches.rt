@@ -53,13 +53,11 @@ fn kept_too_high(mut s: System) -> System {
 // The system that a case starts from: its table's, or one that no bytes lead to.
 fn system_of(does: u8, records: &[u8]) -> System {
     let s = started(records);
-    if does == b'l' {
-        return last_number(s);
+    match does {
+        b'l' => last_number(s),
+        b'k' => kept_too_high(s),
+        _ => s,
     }
-    if does == b'k' {
-        return kept_too_high(s);
-    }
-    s
 }
 
 // The system and the events of a case, with the room that it gives.

@@ -35,12 +35,10 @@ fn case(rt: &impl Print, line: &[u8]) -> io::Result<()> {
     done(rt, &line[..colon], &line[colon..])
 }
 
+// The cases of a text, one to a line.
 fn each_line(rt: &impl Print, text: &[u8]) -> io::Result<()> {
-    let mut at: usize = 0;
-    while at < text.len() {
-        let end = at + text::place_of(&text[at..], b'\n');
-        case(rt, &text[at..end])?;
-        at = end + 1;
+    for line in text.split(|b| *b == b'\n') {
+        case(rt, line)?;
     }
     Ok(())
 }

@@ -1,14 +1,14 @@
 // Tables through the reader. A case has the table's records, and prints the refusal number and the place.
 use crate::MOST_BYTES;
-use crate::show::value;
 use std::io;
 
 fn read(rt: &impl Print, name: &[u8], bytes: &[u8]) -> io::Result<()> {
-    let read = reading::read_table(bytes);
+    let (refusal, place) = match reading::read_table(bytes) {
+        Ok(_) => (0, bytes.len()),
+        Err(refused) => (u8::from(refused.refusal), refused.place),
+    };
     crate::show::name(rt, name)?;
-    value(rt, read.number as u64)?;
-    value(rt, read.place as u64)?;
-    crate::show::end_line(rt)
+    println!(rt; " {refusal} {place}")
 }
 
 pub(crate) fn case(rt: &impl Print, name: &[u8], records: &[u8]) -> io::Result<()> {

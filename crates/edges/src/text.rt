@@ -8,14 +8,7 @@ const LETTER: usize = 2;
 pub(crate) fn place_of(text: &[u8], byte: u8) -> usize
     ensures { IsPrefixLen result text.now }
 {
-    let mut at: usize = 0;
-    while at < text.len() {
-        if text[at] == byte {
-            return at;
-        }
-        at += 1;
-    }
-    at
+    text.iter().position(|b| *b == byte).unwrap_or(text.len())
 }
 
 // The letter of what is done, in a text that starts at the mark before it, or 0.

@@ -2,15 +2,15 @@
 use Rattle.std.specs.Prelude.{◌≡◌}
 use Rattle.lock.specs.declared.Held.{Held}
 use Rattle.system.specs.declared.System.{System}
-use Rattle.system.specs.declared.steps.Stepped.{Stepped}
 use Rattle.wire.specs.Answer.{record_of}
+use Rattle.wire.specs.declared.answer.Answer.{Answer}
 use Rattle.ffi.specs.declared.events.EventValue.{EventValue}
 use Rattle.ffi.specs.declared.lent.Outcome.{Outcome}
 use Rattle.ffi.specs.Calls.{answered_by, applied_of}
 
 -- the holder and the blocked cores, and the ANSWER, which has the owing and the locked cores
-abbrev pub outcome_of : Stepped → Outcome
-outcome_of t = record { holder = t.held.holder; blocked = t.held.blocked; answer = record_of t.answer t.held.owing t.held.locked }
+abbrev pub outcome_of : Held → Answer → Outcome
+outcome_of h a = record { holder = h.holder; blocked = h.blocked; answer = record_of a h.owing h.locked }
 
 -- the holder and the core sets again
 abbrev pub held_in : Outcome → Held

@@ -1,12 +1,11 @@
 // The seven events, and any event by its kind.
 ghost use Rattle.std.specs.Prelude.{◌≡◌};
 ghost use Rattle.table.specs.Numbers.{finished, waiting};
-ghost use Rattle.wire.specs.declared.refusal.Refusal.TheVariants.{WrongKind};
 ghost use Rattle.system.specs.Events.{refused_by, checked, release_step, leave_step, wake_step, serve_step, traffic_step, tick_step};
 ghost use Rattle.ffi.specs.Calls.{answered_of, named_by, applied_of};
 
 use system::{Reply, System};
-use wire::answer::{Answer, AnswerRecord};
+use wire::answer::{Answer, AnswerRecord, record_of};
 use wire::event::Event;
 use wire::kinds::{FINISH, RELEASE, SERVE, TICK, TRAFFIC, WAIT, WAKE};
 use wire::refusal::Refusal;
@@ -28,42 +27,40 @@ pub struct EventValue {
     pub transactions: u32,
 }
 
-// The event that a kind names, if it names one.
-#[derive(Clone, Copy)]
-pub(crate) enum Named {
-    Event(Event),
-    Unknown,
-}
+// The event that a kind names; a kind that is no event's is refused as a record of that kind is.
+impl TryFrom<EventValue> for Event {
+    type Error = Refusal;
 
-pub(crate) fn event_named(value: EventValue) -> Named
-    ensures { result ≡ named_by value }
-{
-    let kind = value.kind;
-    let number = value.number;
-    match kind {
-        RELEASE => Named::Event(Event::Release(number)),
-        FINISH => Named::Event(Event::Finish(number)),
-        WAIT => Named::Event(Event::Wait(number)),
-        WAKE => Named::Event(Event::Wake(number)),
-        SERVE => Named::Event(Event::Serve(number)),
-        TRAFFIC => Named::Event(Event::Traffic {
-            core: number,
-            transactions: value.transactions,
-        }),
-        TICK => Named::Event(Event::Tick),
-        _ => Named::Unknown,
+    ghost try_from_gives = { λ value r. r ≡ named_by value };
+
+    #[tactic(auto, unfolding(crate::specs::Calls::named_by))]
+    fn try_from(value: EventValue) -> Result<Event, Refusal> {
+        let number = value.number;
+        match value.kind {
+            RELEASE => Ok(Event::Release(number)),
+            FINISH => Ok(Event::Finish(number)),
+            WAIT => Ok(Event::Wait(number)),
+            WAKE => Ok(Event::Wake(number)),
+            SERVE => Ok(Event::Serve(number)),
+            TRAFFIC => Ok(Event::Traffic {
+                core: number,
+                transactions: value.transactions,
+            }),
+            TICK => Ok(Event::Tick),
+            _ => Err(Refusal::WrongKind),
+        }
     }
 }
 
 // The system after an event, and its answer as the fields of its record.
-fn with_answer(reply: Reply) -> Answered
-    ensures { result ≡ answered_of reply }
-{
-    let system = reply.system;
-    let lock = system.lock;
-    let outcome = reply.answer;
-    let answer = wire::answer::record_of(outcome, lock.owing, lock.locked);
-    Answered { system, answer }
+impl From<Reply> for Answered {
+    ghost from_gives = { λ reply answered. answered ≡ answered_of reply };
+
+    fn from(reply: Reply) -> Answered {
+        let Reply { system, answer } = reply;
+        let answer = record_of(answer, system.lock.owing, system.lock.locked);
+        Answered { system, answer }
+    }
 }
 
 // RELEASE a gang.
@@ -71,7 +68,7 @@ fn with_answer(reply: Reply) -> Answered
 pub extern "C" fn gjalvorn_release(system: System, gang: u8) -> Answered
     ensures { result ≡ answered_of (checked system (release_step system gang)) }
 {
-    with_answer(system.release(gang))
+    Answered::from(system.release(gang))
 }
 
 // FINISH a thread.
@@ -79,7 +76,7 @@ pub extern "C" fn gjalvorn_release(system: System, gang: u8) -> Answered
 pub extern "C" fn gjalvorn_finish(system: System, thread: u8) -> Answered
     ensures { result ≡ answered_of (checked system (leave_step system thread finished)) }
 {
-    with_answer(system.finish(thread))
+    Answered::from(system.finish(thread))
 }
 
 // WAIT of a thread.
@@ -87,7 +84,7 @@ pub extern "C" fn gjalvorn_finish(system: System, thread: u8) -> Answered
 pub extern "C" fn gjalvorn_wait(system: System, thread: u8) -> Answered
     ensures { result ≡ answered_of (checked system (leave_step system thread waiting)) }
 {
-    with_answer(system.wait(thread))
+    Answered::from(system.wait(thread))
 }
 
 // WAKE a thread.
@@ -95,7 +92,7 @@ pub extern "C" fn gjalvorn_wait(system: System, thread: u8) -> Answered
 pub extern "C" fn gjalvorn_wake(system: System, thread: u8) -> Answered
     ensures { result ≡ answered_of (checked system (wake_step system thread)) }
 {
-    with_answer(system.wake(thread))
+    Answered::from(system.wake(thread))
 }
 
 // SERVE a core.
@@ -103,7 +100,7 @@ pub extern "C" fn gjalvorn_wake(system: System, thread: u8) -> Answered
 pub extern "C" fn gjalvorn_serve(system: System, core: u8) -> Answered
     ensures { result ≡ answered_of (checked system (serve_step system core)) }
 {
-    with_answer(system.serve(core))
+    Answered::from(system.serve(core))
 }
 
 // TRAFFIC from a core.
@@ -111,7 +108,7 @@ pub extern "C" fn gjalvorn_serve(system: System, core: u8) -> Answered
 pub extern "C" fn gjalvorn_traffic(system: System, core: u8, transactions: u32) -> Answered
     ensures { result ≡ answered_of (checked system (traffic_step system core transactions)) }
 {
-    with_answer(system.traffic(core, transactions))
+    Answered::from(system.traffic(core, transactions))
 }
 
 // TICK.
@@ -119,7 +116,7 @@ pub extern "C" fn gjalvorn_traffic(system: System, core: u8, transactions: u32) 
 pub extern "C" fn gjalvorn_tick(system: System) -> Answered
     ensures { result ≡ answered_of (checked system (tick_step system)) }
 {
-    with_answer(system.tick())
+    Answered::from(system.tick())
 }
 
 // Any event. A kind that is no event's is refused as a record of that kind is: 14 first, then 2.
@@ -127,27 +124,22 @@ pub extern "C" fn gjalvorn_tick(system: System) -> Answered
 pub extern "C" fn gjalvorn_apply(system: System, event: EventValue) -> Answered
     ensures { result ≡ applied_of system event }
 {
-    match event_named(event) {
-        Named::Event(known) => with_answer(system.apply(known)),
-        Named::Unknown => unknown(system),
+    match Event::try_from(event) {
+        Ok(known) => Answered::from(system.apply(known)),
+        Err(refusal) => Answered::from(refused(system, refusal)),
     }
 }
 
-// The answer to an event of no known kind.
-fn unknown(system: System) -> Answered
-    ensures { result ≡ answered_of (checked system (refused_by system WrongKind)) }
-{
-    if system.well_formed() {
-        with_answer(refused(system, Refusal::WrongKind))
-    } else {
-        with_answer(refused(system, Refusal::NotWellFormed))
-    }
-}
-
-// The system as it came, beside a refusal.
+// The system as it came, beside the refusal of an event that has no kind: 14 first.
+#[tactic(auto, unfolding(system::specs::Events::checked))]
 fn refused(system: System, refusal: Refusal) -> Reply
-    ensures { result ≡ refused_by system refusal }
+    ensures { result ≡ checked system (refused_by system refusal) }
 {
+    let refusal = if system.well_formed() {
+        refusal
+    } else {
+        Refusal::NotWellFormed
+    };
     Reply {
         system,
         answer: Answer::Refused(refusal),

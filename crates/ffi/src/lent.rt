@@ -1,14 +1,17 @@
 // Any event in place: for a caller that lends the parts of its system, so that none is copied.
 ghost use Rattle.std.specs.Prelude.{◌≡◌};
-ghost use Rattle.system.specs.Parts.{system_of, stepped_of};
-ghost use Rattle.wire.specs.declared.answer.Answer.TheVariants.{Refused};
+ghost use Rattle.system.specs.Parts.{system_of, system_now, SamePlaces};
+ghost use Rattle.system.specs.Events.{reply_of};
+ghost use Rattle.ffi.specs.Calls.{answered_of, applied_of};
 ghost use Rattle.ffi.specs.Outcomes.{AppliedInPlace, outcome_of, held_in};
 
-use crate::events::{EventValue, Named, event_named};
-use lock::Held;
-use system::steps::Stepped;
-use table::Sizes;
-use wire::answer::{Answer, AnswerRecord};
+use crate::events::EventValue;
+use ledger::LedgerRef;
+use lock::{Held, LockRef};
+use system::{SystemMut, SystemRef};
+use table::{Sizes, TableRef};
+use wire::answer::{Answer, AnswerRecord, record_of};
+use wire::event::Event;
 use wire::refusal::Refusal;
 
 // What an event comes to, beside the parts that it was lent: the holder and the blocked cores, and its ANSWER, with the owing and the locked ones.
@@ -20,29 +23,21 @@ pub struct Outcome {
     pub answer: AnswerRecord,
 }
 
-fn told(stepped: Stepped) -> Outcome
-    ensures { result ≡ outcome_of stepped }
-{
-    let held = stepped.held;
-    let answered = stepped.answer;
-    let answer = wire::answer::record_of(answered, held.owing, held.locked);
-    Outcome {
-        holder: held.holder,
-        blocked: held.blocked,
-        answer,
+impl Outcome {
+    // An answer, beside the holder and the core sets after it.
+    fn new(held: Held, answer: Answer) -> Outcome
+        ensures { result ≡ outcome_of held answer }
+    {
+        Outcome {
+            holder: held.holder,
+            blocked: held.blocked,
+            answer: record_of(answer, held.owing, held.locked),
+        }
     }
 }
 
-fn refused(held: Held, refusal: Refusal) -> Outcome
-    ensures { result ≡ outcome_of (stepped_of held (Refused refusal)) }
-{
-    told(Stepped {
-        held,
-        answer: Answer::Refused(refusal),
-    })
-}
-
 // Any event, as `gjalvorn_apply` does it, on the parts of a system that are lent.
+#[tactic(auto, unfolding(system::specs::Parts::system_of))]
 #[unsafe(no_mangle)]
 pub extern "C" fn gjalvorn_apply_lent<'a>(
     sizes: Sizes,
@@ -66,17 +61,53 @@ pub extern "C" fn gjalvorn_apply_lent<'a>(
         (system_of sizes priority.now budget.now gang.now core.now state.new
         number.new served.new skipped.new job.new (held_in result) occupant.new kept.new) result }
 {
-    if !system::parts_ok(
-        sizes, priority, budget, gang, core, state, number, served, skipped, job, held, occupant,
+    let mut lent = SystemMut {
+        table: TableRef {
+            sizes,
+            priority,
+            budget,
+            gang,
+            core,
+        },
+        state,
+        number,
+        served,
+        skipped,
+        job,
+        held,
+        occupant,
         kept,
-    ) {
-        return refused(held, Refusal::NotWellFormed);
+    };
+    let answer = apply_in_place(&mut lent, event);
+    Outcome::new(lent.held, answer)
+}
+
+// The answer of any event on a system that is lent: 14 first, then 2, then the event's own.
+#[tactic(auto, unfolding(system::specs::Events::checked))]
+fn apply_in_place(lent: &mut SystemMut<'_>, event: EventValue) -> Answer
+    ensures did { applied_of (system_now lent.old) event ≡ answered_of (reply_of (system_now lent.new) result) }
+    ensures places { SamePlaces lent.old lent.new }
+{
+    let seen = SystemRef {
+        table: lent.table,
+        state: &*lent.state,
+        ledger: LedgerRef {
+            number: &*lent.number,
+            served: &*lent.served,
+            skipped: &*lent.skipped,
+            job: &*lent.job,
+        },
+        lock: LockRef {
+            held: lent.held,
+            occupant: &*lent.occupant,
+        },
+        kept: &*lent.kept,
+    };
+    if !seen.well_formed() {
+        return Answer::Refused(Refusal::NotWellFormed);
     }
-    match event_named(event) {
-        Named::Event(known) => told(system::steps::step(
-            sizes, priority, budget, gang, core, state, number, served, skipped, job, held,
-            occupant, kept, known,
-        )),
-        Named::Unknown => refused(held, Refusal::WrongKind),
+    match Event::try_from(event) {
+        Ok(known) => lent.step(known),
+        Err(refusal) => Answer::Refused(refusal),
     }
 }

@@ -3,10 +3,11 @@ ghost use Rattle.std.specs.Prelude.{◌≡◌};
 ghost use Rattle.system.specs.Questions.{occupant_found, stopped_found, number_found, served_found, skipped_found, job_found, lowest_found};
 ghost use Rattle.system.specs.Questions.{owing_found};
 ghost use Rattle.reason.specs.Why.{why_of};
-ghost use Rattle.ffi.specs.Calls.{found_in, reason_found};
+ghost use Rattle.ffi.specs.Calls.{found_of, found_in, reason_told, reason_found};
 
-use reason::Explained;
-use system::{System, Told};
+use reason::Reason;
+use system::System;
+use wire::refusal::Refusal;
 
 // A question's refusal number, 0 where it has a value, and that value, 0 where it is refused.
 #[repr(C)]
@@ -16,13 +17,17 @@ pub struct Found {
     pub value: u32,
 }
 
-fn finding_of(told: Told) -> Found
-    ensures { result ≡ found_in told }
-{
-    let finding = told.finding;
-    Found {
-        refusal: system::finding_refusal(finding),
-        value: system::finding_value(finding),
+impl From<Result<u32, Refusal>> for Found {
+    ghost from_gives = { λ finding found. found ≡ found_of finding };
+
+    fn from(finding: Result<u32, Refusal>) -> Found {
+        match finding {
+            Ok(value) => Found { refusal: 0, value },
+            Err(refusal) => Found {
+                refusal: u8::from(refusal),
+                value: 0,
+            },
+        }
     }
 }
 
@@ -31,7 +36,7 @@ fn finding_of(told: Told) -> Found
 pub extern "C" fn gjalvorn_occupant(system: System, core: u8) -> Found
     ensures { result ≡ found_in (occupant_found system core) }
 {
-    finding_of(system.occupant(core))
+    Found::from(system.occupant(core))
 }
 
 // Whether a core is stopped, 1 or 0.
@@ -39,7 +44,7 @@ pub extern "C" fn gjalvorn_occupant(system: System, core: u8) -> Found
 pub extern "C" fn gjalvorn_stopped(system: System, core: u8) -> Found
     ensures { result ≡ found_in (stopped_found system core) }
 {
-    finding_of(system.stopped(core))
+    Found::from(system.stopped(core))
 }
 
 // The number of a gang's last release.
@@ -47,7 +52,7 @@ pub extern "C" fn gjalvorn_stopped(system: System, core: u8) -> Found
 pub extern "C" fn gjalvorn_release_number(system: System, gang: u8) -> Found
     ensures { result ≡ found_in (number_found system gang) }
 {
-    finding_of(system.release_number(gang))
+    Found::from(system.release_number(gang))
 }
 
 // How many of a gang's releases were served.
@@ -55,7 +60,7 @@ pub extern "C" fn gjalvorn_release_number(system: System, gang: u8) -> Found
 pub extern "C" fn gjalvorn_served(system: System, gang: u8) -> Found
     ensures { result ≡ found_in (served_found system gang) }
 {
-    finding_of(system.served(gang))
+    Found::from(system.served(gang))
 }
 
 // How many of a gang's releases were skipped.
@@ -63,7 +68,7 @@ pub extern "C" fn gjalvorn_served(system: System, gang: u8) -> Found
 pub extern "C" fn gjalvorn_skipped(system: System, gang: u8) -> Found
     ensures { result ≡ found_in (skipped_found system gang) }
 {
-    finding_of(system.skipped(gang))
+    Found::from(system.skipped(gang))
 }
 
 // The number of a gang's current job, 0 before the first.
@@ -71,7 +76,7 @@ pub extern "C" fn gjalvorn_skipped(system: System, gang: u8) -> Found
 pub extern "C" fn gjalvorn_job_number(system: System, gang: u8) -> Found
     ensures { result ≡ found_in (job_found system gang) }
 {
-    finding_of(system.job_number(gang))
+    Found::from(system.job_number(gang))
 }
 
 // The lowest owing core, or 255.
@@ -79,7 +84,7 @@ pub extern "C" fn gjalvorn_job_number(system: System, gang: u8) -> Found
 pub extern "C" fn gjalvorn_lowest_owing(system: System) -> Found
     ensures { result ≡ found_in (lowest_found system) }
 {
-    finding_of(system.lowest_owing())
+    Found::from(system.lowest_owing())
 }
 
 // How many cores owe.
@@ -87,7 +92,7 @@ pub extern "C" fn gjalvorn_lowest_owing(system: System) -> Found
 pub extern "C" fn gjalvorn_owing_count(system: System) -> Found
     ensures { result ≡ found_in (owing_found system) }
 {
-    finding_of(system.owing_count())
+    Found::from(system.owing_count())
 }
 
 // Why a thread isn't running: the refusal number, 0 where there is a reason; the reason's number; and the thread or gang that it names,
@@ -100,14 +105,22 @@ pub struct ReasonFound {
     pub which: u8,
 }
 
-fn reason_of(explained: Explained) -> ReasonFound
-    ensures { result ≡ reason_found explained }
-{
-    let explanation = explained.explanation;
-    ReasonFound {
-        refusal: reason::explanation_refusal(explanation),
-        reason: reason::explanation_number(explanation),
-        which: reason::explanation_which(explanation),
+impl From<Result<Reason, Refusal>> for ReasonFound {
+    ghost from_gives = { λ explanation found. found ≡ reason_told explanation };
+
+    fn from(explanation: Result<Reason, Refusal>) -> ReasonFound {
+        match explanation {
+            Ok(reason) => ReasonFound {
+                refusal: 0,
+                reason: u8::from(reason),
+                which: reason.which(),
+            },
+            Err(refusal) => ReasonFound {
+                refusal: u8::from(refusal),
+                reason: 0,
+                which: 0,
+            },
+        }
     }
 }
 
@@ -116,5 +129,5 @@ fn reason_of(explained: Explained) -> ReasonFound
 pub extern "C" fn gjalvorn_why(system: System, thread: u8) -> ReasonFound
     ensures { result ≡ reason_found (why_of system thread) }
 {
-    reason_of(reason::why(system, thread))
+    ReasonFound::from(reason::why(&system, thread))
 }

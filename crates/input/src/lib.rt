@@ -11,6 +11,7 @@ use std::io::Read;
 pub fn read_full<R: Read>(input: &mut R, buffer: &mut [u8]) -> io::Result<usize>
     ensures { IfOk result (λ n. Filled (R.remaining input.old) (R.remaining input.new) n buffer.new) }
 {
+    // The library has no reading into lent memory that goes on to the input's end: its `read_exact` refuses a short input, its others allocate.
     let mut n: usize = 0;
     while n < buffer.len() {
         let more = input.read(&mut buffer[n..])?;

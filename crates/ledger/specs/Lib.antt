@@ -1,4 +1,5 @@
 pub mod Releases
+pub mod Lent
 pub mod WellFormed
 pub mod laws
 pub mod Sized

@@ -4,6 +4,7 @@ pub mod ReadBack
 pub mod Put
 pub mod Listing
 pub mod Shown
+pub mod Room
 pub mod ThreadLine
 pub mod Text
 pub mod Message

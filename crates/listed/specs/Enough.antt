@@ -1,11 +1,10 @@
 -- As many events are looked for as there are bytes, and more would print the same.
-use Rattle.std.specs.Prelude.{ℕ, zero, suc, ◌+◌, ◌≤◌, ◌≡◌, refl, List, [], ◌++◌, cond, eqb, length, drop}
+use Rattle.std.specs.Prelude.{ℕ, zero, suc, ◌+◌, ◌≤◌, ◌≡◌, refl, List, [], ◌++◌, cond, eqb, length, drop, Ok, Err}
 use Rattle.std.proofs.Common.{sym, ap, arith, length-drop, eq-eqb}
 use Rattle.wire.specs.Event.{next_event}
 use Rattle.wire.specs.Question.{WholeRecord}
 use Rattle.wire.specs.laws.Reader.{event_whole}
-use Rattle.wire.specs.declared.event.NextEvent.{NextEvent}
-use Rattle.wire.specs.declared.event.NextEvent.TheVariants as found
+use Rattle.wire.specs.NextEvent.{NextEvent}
 use Rattle.system.specs.declared.System.{System}
 use Rattle.system.specs.Events.{apply_of}
 use Rattle.listed.specs.Output.{Print, events_seen, events_from}
@@ -26,11 +25,11 @@ module _ (print : Print) (n m : ℕ) (rest : Enough print n m) (s : System) (pos
     (a : length bytes ≤ suc n) (b : length bytes ≤ suc m) where
   seen_enough : (x : NextEvent) → next_event bytes ≡ x
       → events_seen print (events_from print n) s position at bytes x ≡ events_seen print (events_from print m) s position at bytes x
-  seen_enough (found.Event e next) f =
-      let w : WholeRecord bytes 0 next = event_whole bytes f in
-      ap (λ (l : List ℕ). print position e (apply_of s e) ++ l)
-      (rest (apply_of s e).system (position + 1) (at + next) (drop next bytes) (simp length-drop (omega arith)) (simp length-drop (omega arith)))
-  seen_enough (found.Refused refusal) f = refl
+  seen_enough (Ok seen) f =
+      let w : WholeRecord bytes 0 seen.next = event_whole bytes f in
+      ap (λ (l : List ℕ). print position seen.found (apply_of s seen.found) ++ l)
+      (rest (apply_of s seen.found).system (position + 1) (at + seen.next) (drop seen.next bytes) (simp length-drop (omega arith)) (simp length-drop (omega arith)))
+  seen_enough (Err refusal) f = refl
 
 pub events_enough : (print : Print) (n m : ℕ) → Enough print n m
 unfolding events_from

@@ -1,8 +1,7 @@
 -- The system that an input's events leave.
-use Rattle.std.specs.Prelude.{ℕ, zero, suc, List, length, take, drop}
+use Rattle.std.specs.Prelude.{ℕ, zero, suc, List, length, take, drop, Ok, Err}
 use Rattle.wire.specs.Event.{next_event}
-use Rattle.wire.specs.declared.event.NextEvent.{NextEvent}
-use Rattle.wire.specs.declared.event.NextEvent.TheVariants as found
+use Rattle.wire.specs.NextEvent.{NextEvent}
 use Rattle.system.specs.declared.System.{System}
 use Rattle.system.specs.Events.{apply_of}
 use Rattle.reading.specs.Reading.{default_budget}
@@ -11,8 +10,8 @@ use Rattle.listed.specs.Start.{events_start}
 
 -- the event that was found, and those after it; at a refused record the events stop
 abbrev pub last_seen : (System → List ℕ → System) → System → List ℕ → NextEvent → System
-last_seen rest s bytes (found.Event e next) = rest (apply_of s e).system (drop next bytes)
-last_seen rest s bytes (found.Refused refusal) = s
+last_seen rest s bytes (Ok seen) = rest (apply_of s seen.found).system (drop seen.next bytes)
+last_seen rest s bytes (Err refusal) = s
 
 -- the events of the bytes left, at most n of them
 unfoldable pub last_from : ℕ → System → List ℕ → System

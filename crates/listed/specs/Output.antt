@@ -1,10 +1,9 @@
 -- Document 01, "The listing": the whole output of an input, whatever is printed of an event.
-use Rattle.std.specs.Prelude.{ℕ, zero, suc, ◌+◌, List, [], ◌++◌, cond, eqb, ltb, length, take, drop}
+use Rattle.std.specs.Prelude.{ℕ, zero, suc, ◌+◌, List, [], ◌++◌, cond, eqb, ltb, length, take, drop, Ok, Err}
 use Rattle.wire.specs.Event.{next_event}
 use Rattle.wire.specs.Refusal.{number_of}
 use Rattle.wire.specs.declared.event.Event.{Event}
-use Rattle.wire.specs.declared.event.NextEvent.{NextEvent}
-use Rattle.wire.specs.declared.event.NextEvent.TheVariants as found
+use Rattle.wire.specs.NextEvent.{NextEvent}
 use Rattle.system.specs.declared.System.{System}
 use Rattle.system.specs.declared.events.Reply.{Reply}
 use Rattle.system.specs.Events.{apply_of}
@@ -30,9 +29,9 @@ event_then print rest position at bytes e r = print position e r ++ rest r.syste
 
 -- "stopped R at P" where the record is refused
 abbrev pub events_seen : Print → PrintRest → System → ℕ → ℕ → List ℕ → NextEvent → List ℕ
-events_seen print rest s position at bytes (found.Event e next) =
-    event_then print rest position (at + next) (drop next bytes) e (apply_of s e)
-events_seen print rest s position at bytes (found.Refused refusal) = events_stopped (number_of refusal) at
+events_seen print rest s position at bytes (Ok seen) =
+    event_then print rest position (at + seen.next) (drop seen.next bytes) seen.found (apply_of s seen.found)
+events_seen print rest s position at bytes (Err refusal) = events_stopped (number_of refusal) at
 
 -- the events of the bytes left at a place, at most n of them
 unfoldable pub events_from : Print → ℕ → PrintRest

@@ -2,8 +2,7 @@
 use Rattle.std.specs.Prelude.{ℕ, ◌≡◌, List}
 use Rattle.std.proofs.Common.{ap}
 use Rattle.system.specs.declared.System.{System}
-use Rattle.listed.specs.declared.Listed.{Listed}
-use Rattle.listed.specs.Listed.{listed_of}
+use Rattle.listed.specs.Listed.{Listed, listed_of}
 use Rattle.listed.specs.laws.Listed.{listed_event}
 use Rattle.listed.specs.Output.{events_from}
 use Rattle.listed.specs.Reasons.{reasons_text, reasons_printed}

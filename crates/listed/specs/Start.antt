@@ -1,9 +1,8 @@
 -- Document 01, "The listing": "a table, then events from the first record with a kind of 16 or more".
-use Rattle.std.specs.Prelude.{ℕ, zero, suc, List, cond, ltb, length}
+use Rattle.std.specs.Prelude.{ℕ, zero, suc, List, cond, ltb, length, Ok}
 use Rattle.wire.specs.Record.{header_size, kind_at, bytes_left, record_at}
 use Rattle.wire.specs.declared.kinds.Stream.TheVariants as stream
-use Rattle.wire.specs.declared.record.Seen.{Seen}
-use Rattle.wire.specs.declared.record.Seen.TheVariants.{Record, Refused}
+use Rattle.wire.specs.Seen.{Seen, Refused}
 
 -- "a kind of 16 or more"
 abbrev pub first_event_kind : ℕ
@@ -16,7 +15,7 @@ split_at s at =
 
 -- what the record question finds: a record, after which the table goes on, or why not
 abbrev pub on_seen : Seen → (ℕ → ℕ) → ℕ → ℕ
-on_seen (Record kind next) on off = on next
+on_seen (Ok record_seen) on off = on record_seen.next
 on_seen (Refused refusal) on off = off
 
 -- from a place on, past at most n table records

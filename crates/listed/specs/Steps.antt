@@ -1,26 +1,21 @@
 -- The events' part of an output is the program's loop: a turn, time after time; the listing's turn is list_event.
-use Prim.Native.Nat.{ℕ, zero, suc, ◌+◌}
-use Rattle.std.specs.Prelude.{◌≡◌, eqb, length, drop}
-use Rattle.std.proofs.Math.Path.{refl, ap}
-use mathlib.Core.List.{List, [], ◌++◌}
-use Rattle.std.proofs.Math.Bool.{cond}
-use Rattle.std.proofs.Common.{arith, ne_eqb}
+use Rattle.std.specs.Prelude.{ℕ, zero, suc, ◌+◌, ◌≡◌, refl, List, [], ◌++◌, cond, eqb, length, drop, Ok, Err}
+use Rattle.std.proofs.Common.{ap, arith, ne_eqb}
 use Rattle.wire.specs.Event.{next_event}
 use Rattle.wire.specs.Refusal.{number_of}
 use Rattle.wire.specs.laws.Refusal.{some_number}
 use Rattle.wire.specs.declared.event.Event.{Event}
-use Rattle.wire.specs.declared.event.NextEvent.{NextEvent}
-use Rattle.wire.specs.declared.event.NextEvent.TheVariants as found
+use Rattle.wire.specs.NextEvent.{NextEvent}
+use Rattle.wire.specs.NextEvent as found
 use Rattle.wire.specs.declared.refusal.Refusal.{Refusal}
 use Rattle.system.specs.declared.System.{System}
 use Rattle.system.specs.Events.{apply_of}
 use Rattle.lines.specs.Listing.{line_of}
-use Rattle.listed.specs.Listed.{line_for, listed_seen, text_of, listed_of}
+use Rattle.listed.specs.Listed.{Listed, line_for, listed_seen, text_of, listed_of}
 use Rattle.listed.specs.laws.Listed.{text_event}
 use Rattle.listed.specs.Output.{Print, PrintRest, events_seen, events_from}
 use Rattle.listed.specs.ListingOf.{event_printed}
 use Rattle.listed.specs.Messages.{events_stopped}
-use Rattle.listed.specs.declared.Listed.{Listed}
 
 -- the text of a turn: of its system, its position and the bytes left
 abbrev pub TurnText : Type 0
@@ -54,9 +49,11 @@ module _ (print : Print) (text : TurnText) (prints : Prints print text) where
   module _ (f g : PrintRest) (same : Same f g) (s : System) (position at : ℕ) (bytes : List ℕ) where
     seen_same : (x : NextEvent) → next_event bytes ≡ x
         → events_seen print f s position at bytes x ≡ step_then g position at bytes (text s position bytes) (listed_seen s position x)
-    seen_same (found.Event e next) p =
+    seen_same (Ok seen) p =
+        let e = seen.found in
+        let next = seen.next in
         rw (prints s position bytes e next p, same (apply_of s e).system (position + 1) (at + next) (drop next bytes))
-    seen_same (found.Refused refusal) p = rw (ne_eqb (number_of refusal) 0 (denied refusal))
+    seen_same (Err refusal) p = rw (ne_eqb (number_of refusal) 0 (denied refusal))
 
   pub steps_same : (n : ℕ) → Same (events_from print n) (steps_from text n)
   unfolding events_from steps_from listed_of

@@ -2,21 +2,23 @@
 #![tactic(auto)]
 
 ghost use Rattle.std.specs.Prelude.{◌≡◌, ◌≤◌, length};
-ghost use Rattle.lines.specs.Shown.{Shown};
 ghost use Rattle.listed.specs.Start.{split_at, events_start};
-ghost use Rattle.listed.specs.Listed.{line_with, text_of, listed_of};
+ghost use Rattle.listed.specs.Listed.{line_with, event_listed};
 
 mod messages;
 mod reasons;
 
-use lines::{Line, ROOM};
+use lines::Line;
 pub use messages::{list_stopped, list_table_refused, list_too_long};
 pub use reasons::list_reason;
-use system::System;
-use wire::answer::AnswerRecord;
-use wire::event::NextEvent;
+use system::{Reply, System};
+use wire::answer::{AnswerRecord, record_of};
+use wire::event::{Event, kind_of};
 use wire::kinds::Stream;
-use wire::record::{HEADER, Seen};
+use wire::number::u16_at;
+use wire::of_record::Next;
+use wire::record::{HEADER, Record, next, record_at};
+use wire::refusal::Refusal;
 
 // The lowest kind that starts the events.
 pub const FIRST_EVENT_KIND: u16 = 16;
@@ -27,22 +29,19 @@ const KIND_AT: usize = 2;
 // The most bytes of an input that is not too long.
 pub const MOST_BYTES: usize = 32768;
 
-// Where the events start, or the length of the bytes where none do.
+// Where the events start, or the length of the bytes where none do: past every table record.
 pub fn events_start(bytes: &[u8]) -> usize
     ensures { result ≡ events_start bytes.now }
 {
-    let mut at: usize = 0;
-    while at < bytes.len() {
-        let seen = wire::record::record_at(Stream::Table, bytes, at);
-        let Seen::Record { kind: _, next } = seen else {
-            return split_at(bytes, at);
-        };
+    let mut at = 0;
+    while let Ok(Record { next, .. }) = record_at(Stream::Table, bytes, at) {
         at = next;
     }
-    bytes.len()
+    split_at(bytes, at)
 }
 
 // Where the events start if no table record stands at a place: there, where a kind starts the events, whatever its length.
+#[tactic(auto, unfolding(crate::specs::Start::split_at))]
 fn split_at(bytes: &[u8], at: usize) -> usize
     requires { at ≤ length bytes.now }
     ensures { result ≡ split_at bytes.now at }
@@ -50,50 +49,36 @@ fn split_at(bytes: &[u8], at: usize) -> usize
     if bytes.len() - at < HEADER {
         return bytes.len();
     }
-    if wire::number::u16_at(bytes, at + KIND_AT) < FIRST_EVENT_KIND {
+    if u16_at(bytes, at + KIND_AT) < FIRST_EVENT_KIND {
         bytes.len()
     } else {
         at
     }
 }
 
-// What listing an event comes to: the system after it, how many bytes its record and its line take, and 0.
-// Where its record is refused: the system as it came, no bytes, and the refusal's number.
+// What listing an event comes to: the system after it, how many bytes its record takes, and its line.
 #[derive(Clone, Copy)]
 pub struct Listed {
     pub system: System,
     pub size: usize,
-    pub length: usize,
-    pub number: u8,
+    pub line: Line,
 }
 
-// Applies the event at the start of the bytes left, and puts its line at the start of the text.
-pub fn list_event(system: System, position: u32, left: &[u8], text: &mut [u8; ROOM]) -> Listed
-    ensures value { result ≡ listed_of system position left.now }
-    ensures shown { Shown (text_of system position left.now) text.old text.new result.length }
+// Applies the event at the start of the bytes left. Where its record is refused, nothing is applied: the system is the caller's, as it came.
+#[tactic(auto, unfolding(crate::specs::Listed::event_listed))]
+pub fn list_event(system: System, position: u32, left: &[u8]) -> Result<Listed, Refusal>
+    ensures { result ≡ event_listed system position left.now }
 {
-    match wire::event::next_event(left) {
-        NextEvent::Event { event, next } => {
-            let reply = system.apply(event);
-            let after = reply.system;
-            let lock = after.lock;
-            let answer = reply.answer;
-            let record = wire::answer::record_of(answer, lock.owing, lock.locked);
-            let line = line_of(position, wire::event::kind_of(event), record, lock.holder);
-            Listed {
-                system: after,
-                size: next,
-                length: lines::event_line(line, text),
-                number: 0,
-            }
-        }
-        NextEvent::Refused(refusal) => Listed {
-            system,
-            size: 0,
-            length: 0,
-            number: wire::refusal::number_of(refusal),
-        },
-    }
+    let Next { found, next } = next::<Event>(left)?;
+    let Reply { system, answer } = system.apply(found);
+    let lock = system.lock;
+    let record = record_of(answer, lock.owing, lock.locked);
+    let line = line_of(position, kind_of(found), record, lock.holder);
+    Ok(Listed {
+        system,
+        size: next,
+        line,
+    })
 }
 
 // The line of an event's position, kind, answer and holder.

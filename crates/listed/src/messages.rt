@@ -1,26 +1,40 @@
 // Document 01, "The listing": the message lines.
-ghost use Rattle.lines.specs.Shown.{Shown};
+ghost use Rattle.std.specs.Prelude.{◌≡◌};
+ghost use Rattle.lines.specs.Message.{words_line_of, refusal_line_of};
 ghost use Rattle.listed.specs.Messages.{input_too_long, table_refused, events_stopped};
 
-use lines::{ROOM, refusal_line, words_line};
+use lines::{RefusalLine, WordsLine};
 
-// Puts the line of an input that is too long at the start of the text; as each below, it answers how many bytes the line takes.
-pub fn list_too_long(text: &mut [u8; ROOM]) -> usize
-    ensures { Shown input_too_long text.old text.new result }
+// The line of an input that is too long.
+#[tactic(auto, unfolding(lines::specs::Message::words_line_of))]
+pub fn list_too_long() -> WordsLine<'static>
+    ensures { words_line_of result.words.now ≡ input_too_long }
 {
-    words_line(b"input too long", text)
+    WordsLine {
+        words: b"input too long",
+    }
 }
 
 // The line of a table that is refused.
-pub fn list_table_refused(number: u8, place: u32, text: &mut [u8; ROOM]) -> usize
-    ensures { Shown (table_refused number place) text.old text.new result }
+#[tactic(auto, unfolding(lines::specs::Message::refusal_line_of))]
+pub fn list_table_refused(number: u8, place: u32) -> RefusalLine<'static>
+    ensures { refusal_line_of result.words.now result.number result.place ≡ table_refused number place }
 {
-    refusal_line(b"table refused ", number, place, text)
+    RefusalLine {
+        words: b"table refused ",
+        number,
+        place,
+    }
 }
 
 // The line of events that stop before the end.
-pub fn list_stopped(number: u8, place: u32, text: &mut [u8; ROOM]) -> usize
-    ensures { Shown (events_stopped number place) text.old text.new result }
+#[tactic(auto, unfolding(lines::specs::Message::refusal_line_of))]
+pub fn list_stopped(number: u8, place: u32) -> RefusalLine<'static>
+    ensures { refusal_line_of result.words.now result.number result.place ≡ events_stopped number place }
 {
-    refusal_line(b"stopped ", number, place, text)
+    RefusalLine {
+        words: b"stopped ",
+        number,
+        place,
+    }
 }

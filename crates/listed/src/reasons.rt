@@ -1,54 +1,42 @@
 // Document 02, K3: the line that one thread prints after an event, in words that a planner developer understands.
-ghost use Rattle.lines.specs.Shown.{Shown};
-ghost use Rattle.listed.specs.Reasons.{reason_line, reason_text};
+ghost use Rattle.std.specs.Prelude.{◌≡◌};
+ghost use Rattle.listed.specs.Reasons.{words_of, line_text, reason_listed};
 
-use lines::{ROOM, thread_line};
-use reason::{Explanation, Reason};
+use lines::ThreadLine;
+use reason::Reason;
 use system::System;
+use wire::refusal::Refusal;
 
-// Puts why a thread isn't running at the start of the text; how many bytes it takes, none for a thread that is not there.
-pub fn list_reason(system: System, position: u32, t: u8, text: &mut [u8; ROOM]) -> usize
-    ensures { Shown (reason_text system position t) text.old text.new result }
+// Why a thread isn't running, as its line; a thread that is not there is refused, and prints nothing.
+#[tactic(auto, unfolding(crate::specs::Reasons::reason_listed))]
+pub fn list_reason(
+    system: &System,
+    position: u32,
+    thread: u8,
+) -> Result<ThreadLine<'static>, Refusal>
+    ensures { line_text result ≡ reason_listed system.now position thread }
 {
-    let explained = reason::why(system, t);
-    let explanation = explained.explanation;
-    match explanation {
-        Explanation::Reason(reason) => reason_line(position, t, reason, text),
-        Explanation::Refused(_) => 0,
-    }
+    let reason = reason::why(system, thread)?;
+    Ok(ThreadLine {
+        position,
+        thread,
+        words: words_of(reason),
+        which: reason.which(),
+    })
 }
 
-// A reason in words.
-fn reason_line(position: u32, t: u8, reason: Reason, text: &mut [u8; ROOM]) -> usize
-    ensures { Shown (reason_line position t reason) text.old text.new result }
+// A reason in words; the thread or gang that one names follows them.
+fn words_of(reason: Reason) -> &'static [u8]
+    ensures { result.now ≡ words_of reason }
 {
-    let which = reason::reason_which(reason);
     match reason {
-        Reason::Finished => thread_line(position, t, b"finished", which, text),
-        Reason::Waiting => thread_line(position, t, b"waiting", which, text),
-        Reason::RunningLocked => thread_line(position, t, b"running on a locked core", which, text),
-        Reason::RunningDisplaced => thread_line(position, t, b"running but displaced", which, text),
-        Reason::CoreOwes => thread_line(
-            position,
-            t,
-            b"ready, but its core owes a reschedule",
-            which,
-            text,
-        ),
-        Reason::ThreadAhead(_) => thread_line(
-            position,
-            t,
-            b"ready, but another thread is ahead of it on its core: thread ",
-            which,
-            text,
-        ),
-        Reason::GangHolds(_) => thread_line(
-            position,
-            t,
-            b"ready, but a gang of higher priority holds the lock: gang ",
-            which,
-            text,
-        ),
-        Reason::NoneOfThese => thread_line(position, t, b"none of these", which, text),
+        Reason::Finished => b"finished",
+        Reason::Waiting => b"waiting",
+        Reason::RunningLocked => b"running on a locked core",
+        Reason::RunningDisplaced => b"running but displaced",
+        Reason::CoreOwes => b"ready, but its core owes a reschedule",
+        Reason::ThreadAhead(_) => b"ready, but another thread is ahead of it on its core: thread ",
+        Reason::GangHolds(_) => b"ready, but a gang of higher priority holds the lock: gang ",
+        Reason::NoneOfThese => b"none of these",
     }
 }

@@ -4,11 +4,37 @@
 
 ghost use Rattle.std.specs.Prelude.{◌≡◌, get_or, set};
 
-// What an unused place holds.
-pub const UNUSED: u8 = 0;
+mod every;
+
+pub use every::every_place;
+
+// What a list may hold: bytes, and larger numbers.
+pub trait Number: Copy {
+    ghost unused: { Self };
+
+    // What an unused place holds.
+    fn unused() -> Self
+        ensures { result ≡ unused };
+}
+
+impl Number for u8 {
+    ghost unused = { 0 };
+
+    fn unused() -> u8 {
+        0
+    }
+}
+
+impl Number for u32 {
+    ghost unused = { 0 };
+
+    fn unused() -> u32 {
+        0
+    }
+}
 
 // What stands at place i, and `past` past the last place.
-pub fn at_or(xs: &[u8], i: u8, past: u8) -> u8
+pub fn at_or<T: Copy>(xs: &[T], i: u8, past: T) -> T
     ensures { result ≡ get_or xs.now i past }
 {
     let i = i as usize;
@@ -16,36 +42,18 @@ pub fn at_or(xs: &[u8], i: u8, past: u8) -> u8
 }
 
 // What stands at place i.
-pub fn at(xs: &[u8], i: u8) -> u8
-    ensures { result ≡ get_or xs.now i 0 }
+pub fn at<T: Number>(xs: &[T], i: u8) -> T
+    ensures { result ≡ get_or xs.now i T.unused }
 {
-    at_or(xs, i, UNUSED)
+    at_or(xs, i, T::unused())
 }
 
 // Place i becomes v.
-pub fn put(xs: &mut [u8], i: u8, v: u8)
+pub fn put<T: Copy>(xs: &mut [T], i: u8, v: T)
     ensures { xs.new ≡ set xs.old i v }
 {
     let i = i as usize;
     if i < xs.len() {
         xs[i] = v;
-    }
-}
-
-// What stands at place i, of larger numbers.
-pub fn value_at(values: &[u32], i: u8) -> u32
-    ensures { result ≡ get_or values.now i 0 }
-{
-    let i = i as usize;
-    if i < values.len() { values[i] } else { 0 }
-}
-
-// Place i becomes value, of larger numbers.
-pub fn put_value(values: &mut [u32], i: u8, value: u32)
-    ensures { values.new ≡ set values.old i value }
-{
-    let i = i as usize;
-    if i < values.len() {
-        values[i] = value;
     }
 }

@@ -1,10 +1,8 @@
 -- The test of a lock and the facts of a well-formed one say the same.
-use Rattle.std.specs.Prelude.{ℕ, ◌<◌, ◌≤◌, Bool, cond, not, ◌&&◌, ◌≡◌, ltb, length}
-use Rattle.std.proofs.Math.Bool.{true}
+use Rattle.std.specs.Prelude.{ℕ, ◌<◌, ◌≤◌, Bool, true, cond, not, ◌&&◌, ◌≡◌, eqb, ltb, length}
 use Rattle.std.proofs.Math.Decide.{ℕ_discrete, dec_lt}
-use Rattle.std.proofs.Common.{arith}
-use borrow.Author.Tests.{eq-eqb, ne_eqb, lt-ltb, eqb-true, eqb-false, ltb-true, not-true}
-use Rattle.std.proofs.Math.Dec.{eqb}
+use Rattle.std.proofs.Common.{arith, eq-eqb, ne_eqb, lt-ltb, eqb-true, ltb-true}
+use Rattle.std.proofs.lemmas.Bool.{eqb-false, not-true}
 use Rattle.std.specs.Int.Bits.{bit_or}
 use Rattle.std.proofs.Math.ListN.{get_or-eq_default}
 use Rattle.coreset.specs.Set.{has}

@@ -1,4 +1,5 @@
 pub mod Serve
+pub mod Lent
 pub mod OneHeld
 pub mod HeldWhenLocked
 pub mod World

@@ -1,8 +1,11 @@
--- A promise on `lock_of r o` allows one holder with its core sets, and one list of occupants: those of `Lock::held`, `Held::serve` and `Held::owe`.
+-- A promise on `lock_of r o` or `lock_now l` allows one holder with its core sets, and one list of occupants: those of `Lock::held`,
+-- `LockMut::serve` and `LockMut::owe`.
 use Rattle.std.specs.Prelude.{ℕ, List, ◌≡◌}
 use Rattle.std.proofs.Common.{sym, ◌∙◌}
 use Rattle.lock.specs.declared.Held.{Held}
 use Rattle.lock.specs.declared.Lock.{Lock}
+use Rattle.lock.specs.declared.LockMut.{LockMut}
+use Rattle.lock.specs.Lent.{lock_now}
 use Rattle.lock.specs.Serve.{lock_of}
 
 -- a lock's holder and core sets
@@ -14,3 +17,7 @@ one_held d {r} {q} {o} {p} e f = (λ i. held_of (same i), λ i. (same i).occupan
   where
     same : lock_of r o ≡ lock_of q p
     same = e ∙ sym f
+
+-- the same of occupants that are lent
+pub one_lent : (d : Lock) (l m : LockMut) → lock_now l ≡ d → lock_now m ≡ d → (l.held ≡ m.held) × (l.occupant.now ≡ m.occupant.now)
+one_lent d l m = one_held d

@@ -2,13 +2,14 @@
 // is handed in.
 #![tactic(auto)]
 
-ghost use Rattle.std.specs.Prelude.{◌≡◌, List, ℕ, ◌<◌};
+ghost use Rattle.std.specs.Prelude.{◌≡◌, ◌<◌, ℕ};
+ghost use Rattle.lock.specs.Lent.{lock_seen, lock_now, SamePlaces};
 ghost use Rattle.lock.specs.Serve.{free_lock, lock_of, owe_of, unmarked_of, vacated_of, freed_of, settled_of, left_of};
 ghost use Rattle.lock.specs.Serve.{locked_for, displaced_of, blocked_of, claimed_of, admitted_of, serve_of};
 
 mod rules;
 
-pub use rules::lock_ok;
+use lists::put;
 
 // Who holds the lock, which cores are locked, blocked and owing, and each core's occupant.
 #[repr(C)]
@@ -21,7 +22,8 @@ pub struct Lock {
     pub occupant: [u8; 32],
 }
 
-// A lock but for the occupants: what an event takes and hands back, while the occupants are lent.
+// A lock but for the occupants: what an event takes and hands back, while the occupants are lent. The C interface has both structs:
+// gjalvorn_lock and gjalvorn_held.
 #[repr(C)]
 #[derive(Clone, Copy)]
 pub struct Held {
@@ -56,6 +58,16 @@ impl Lock {
             owing: self.owing,
         }
     }
+
+    // The lock, its occupants lent for reading.
+    pub fn lent(&self) -> LockRef<'_>
+        ensures { lock_seen result ≡ self.now }
+    {
+        LockRef {
+            held: self.held(),
+            occupant: &self.occupant,
+        }
+    }
 }
 
 impl Held {
@@ -71,129 +83,173 @@ impl Held {
             occupant,
         }
     }
+}
 
+// What the lock is held against: how many cores, threads and gangs there are, and each thread's core and gang.
+#[derive(Clone, Copy)]
+pub struct Pins<'a> {
+    pub cores: u8,
+    pub threads: u8,
+    pub gangs: u8,
+    pub core: &'a [u8; 128],
+    pub gang: &'a [u8; 128],
+}
+
+// A lock whose occupants are lent for reading.
+#[derive(Clone, Copy)]
+pub struct LockRef<'a> {
+    pub held: Held,
+    pub occupant: &'a [u8; 32],
+}
+
+// A core's first ready thread, or NONE, that thread's gang, and whether that gang is ahead of the holder: what step (c) goes by.
+#[derive(Clone, Copy)]
+struct First {
+    core: u8,
+    thread: u8,
+    gang: u8,
+    ahead: bool,
+    ghost exists: { core < 32 },
+}
+
+// A lock whose occupants are lent for an event.
+#[derive(Drop)]
+pub struct LockMut<'a> {
+    pub held: Held,
+    pub occupant: &'a mut [u8; 32],
+}
+
+impl<'a> LockMut<'a> {
     // SERVE core c, where t is its first ready thread or NONE, g that thread's gang, ahead whether g is ahead of the holder.
-    pub fn serve(self, occupant: &mut [u8; 32], c: u8, t: u8, g: u8, ahead: bool) -> Held
-        ensures { lock_of result occupant.new ≡ serve_of (lock_of self occupant.old) c t g ahead }
+    #[tactic(auto, unfolding(crate::specs::Serve::serve_of, crate::specs::Serve::serve_by))]
+    pub fn serve(&mut self, c: u8, t: u8, g: u8, ahead: bool)
+        ensures served { lock_now self.new ≡ serve_of (lock_now self.old) c t g ahead }
+        ensures places { SamePlaces self.old self.new }
     {
         if c < coreset::WIDTH {
-            let left = self.unmarked(c).left(occupant, c, t, g);
-            left.admitted(occupant, c, t, g, ahead)
-        } else {
-            self
+            self.unmark(c);
+            self.leave(c);
+            self.admit(First {
+                core: c,
+                thread: t,
+                gang: g,
+                ahead,
+            });
         }
     }
 
     // Core c owes.
-    pub fn owe(mut self, c: u8) -> Held
-        ensures { (o : List ℕ) → lock_of result o ≡ owe_of (lock_of self o) c }
+    pub fn owe(&mut self, c: u8)
+        ensures owed { lock_now self.new ≡ owe_of (lock_now self.old) c }
+        ensures places { SamePlaces self.old self.new }
     {
-        self.owing = coreset::set(self.owing, c);
-        self
+        self.held.owing = coreset::set(self.held.owing, c);
     }
 
     // Step (a): c no longer owes and is no longer blocked.
-    fn unmarked(mut self, c: u8) -> Held
-        ensures { (o : List ℕ) → lock_of result o ≡ unmarked_of (lock_of self o) c }
+    fn unmark(&mut self, c: u8)
+        ensures unmarked { lock_now self.new ≡ unmarked_of (lock_now self.old) c }
+        ensures places { SamePlaces self.old self.new }
     {
-        self.owing = coreset::clear(self.owing, c);
-        self.blocked = coreset::clear(self.blocked, c);
-        self
+        self.held.owing = coreset::clear(self.held.owing, c);
+        self.held.blocked = coreset::clear(self.held.blocked, c);
     }
 
     // Step (b): c gives up the lock, whatever its first ready thread t and that thread's gang g; where it was the last the lock is free.
-    fn left(self, occupant: &mut [u8; 32], c: u8, t: u8, g: u8) -> Held
-        requires { c < 32 }
-        ensures { lock_of result occupant.new ≡ left_of (lock_of self occupant.old) c t g }
+    #[tactic(auto, unfolding(crate::specs::Serve::left_of))]
+    fn leave(&mut self, c: u8)
+        ensures left { (t g : ℕ) → lock_now self.new ≡ left_of (lock_now self.old) c t g }
+        ensures places { SamePlaces self.old self.new }
     {
-        self.vacated(occupant, c).settled()
+        self.vacate(c);
+        self.settle();
     }
 
     // Step (b), for c itself: it is not locked, and has no occupant.
-    fn vacated(mut self, occupant: &mut [u8; 32], c: u8) -> Held
-        requires { c < 32 }
-        ensures { lock_of result occupant.new ≡ vacated_of (lock_of self occupant.old) c }
+    fn vacate(&mut self, c: u8)
+        ensures vacated { lock_now self.new ≡ vacated_of (lock_now self.old) c }
+        ensures places { SamePlaces self.old self.new }
     {
-        let at = c as usize;
-        self.locked = coreset::clear(self.locked, c);
-        occupant[at] = coreset::NONE;
-        self
+        self.held.locked = coreset::clear(self.held.locked, c);
+        put(self.occupant, c, coreset::NONE);
     }
 
     // Step (b), for the others: where no core is locked, the lock is free.
-    fn settled(self) -> Held
-        ensures { (o : List ℕ) → lock_of result o ≡ settled_of (lock_of self o) }
+    #[tactic(auto, unfolding(crate::specs::Serve::settled_of))]
+    fn settle(&mut self)
+        ensures settled { lock_now self.new ≡ settled_of (lock_now self.old) }
+        ensures places { SamePlaces self.old self.new }
     {
-        if self.locked == 0 { self.freed() } else { self }
+        if self.held.locked == 0 {
+            self.free();
+        }
     }
 
     // The lock is free, every blocked core owes and none is blocked.
-    fn freed(mut self) -> Held
-        ensures { (o : List ℕ) → lock_of result o ≡ freed_of (lock_of self o) }
+    fn free(&mut self)
+        ensures freed { lock_now self.new ≡ freed_of (lock_now self.old) }
+        ensures places { SamePlaces self.old self.new }
     {
-        self.holder = coreset::NONE;
-        self.owing = self.owing | self.blocked;
-        self.blocked = 0;
-        self
+        self.held.holder = coreset::NONE;
+        self.held.owing = self.held.owing | self.held.blocked;
+        self.held.blocked = 0;
     }
 
-    // Step (c): c's first ready thread t of gang g, or NONE, is let in.
-    fn admitted(self, occupant: &mut [u8; 32], c: u8, t: u8, g: u8, ahead: bool) -> Held
-        requires { c < 32 }
-        ensures { lock_of result occupant.new ≡ admitted_of (lock_of self occupant.old) c t g ahead }
+    // Step (c): the first ready thread, or NONE, is let in.
+    #[tactic(auto, unfolding(crate::specs::Serve::admitted_of))]
+    fn admit(&mut self, first: First)
+        ensures admitted { lock_now self.new ≡ admitted_of (lock_now self.old) first.core first.thread first.gang first.ahead }
+        ensures places { SamePlaces self.old self.new }
     {
-        if t == coreset::NONE {
-            self
+        if first.thread != coreset::NONE {
+            self.claim(first);
+        }
+    }
+
+    // Step (c), where there is a thread: its gang takes the lock, shares it, seizes it, or its core is blocked.
+    #[tactic(auto, unfolding(crate::specs::Serve::claimed_of))]
+    fn claim(&mut self, first: First)
+        ensures claimed { lock_now self.new ≡ claimed_of (lock_now self.old) first.core first.thread first.gang first.ahead }
+        ensures places { SamePlaces self.old self.new }
+    {
+        if self.held.holder == coreset::NONE {
+            self.lock_for(first);
+        } else if self.held.holder == first.gang {
+            self.lock_for(first);
+        } else if first.ahead {
+            self.displace();
+            self.lock_for(first);
         } else {
-            self.claimed(occupant, c, t, g, ahead)
+            self.block(first);
         }
     }
 
-    // Step (c), where there is a thread t: its gang takes the lock, shares it, seizes it, or c is blocked.
-    fn claimed(self, occupant: &mut [u8; 32], c: u8, t: u8, g: u8, ahead: bool) -> Held
-        requires { c < 32 }
-        ensures { lock_of result occupant.new ≡ claimed_of (lock_of self occupant.old) c t g ahead }
+    // The thread's gang holds the lock, its core is locked, and the thread is the occupant.
+    #[tactic(auto, unfolding(coreset::specs::Set::within_width))]
+    fn lock_for(&mut self, first: First)
+        ensures locked { lock_now self.new ≡ locked_for (lock_now self.old) first.core first.thread first.gang }
+        ensures places { SamePlaces self.old self.new }
     {
-        if self.holder == coreset::NONE {
-            return self.lock_for(occupant, c, t, g);
-        }
-        if self.holder == g {
-            return self.lock_for(occupant, c, t, g);
-        }
-        if ahead {
-            self.displaced().lock_for(occupant, c, t, g)
-        } else {
-            self.block(c)
-        }
-    }
-
-    // Gang g holds the lock, c is locked, thread t is its occupant.
-    fn lock_for(mut self, occupant: &mut [u8; 32], c: u8, t: u8, g: u8) -> Held
-        requires { c < 32 }
-        ensures { lock_of result occupant.new ≡ locked_for (lock_of self occupant.old) c t g }
-    {
-        let at = c as usize;
-        self.holder = g;
-        self.locked = coreset::set(self.locked, c);
-        occupant[at] = t;
-        self
+        self.held.holder = first.gang;
+        self.held.locked = coreset::set(self.held.locked, first.core);
+        put(self.occupant, first.core, first.thread);
     }
 
     // Every locked core owes and is unlocked; its occupant stays until it is served.
-    fn displaced(mut self) -> Held
-        ensures { (o : List ℕ) → lock_of result o ≡ displaced_of (lock_of self o) }
+    fn displace(&mut self)
+        ensures displaced { lock_now self.new ≡ displaced_of (lock_now self.old) }
+        ensures places { SamePlaces self.old self.new }
     {
-        self.owing = self.owing | self.locked;
-        self.locked = 0;
-        self
+        self.held.owing = self.held.owing | self.held.locked;
+        self.held.locked = 0;
     }
 
-    // Core c is blocked.
-    fn block(mut self, c: u8) -> Held
-        requires { c < 32 }
-        ensures { (o : List ℕ) → lock_of result o ≡ blocked_of (lock_of self o) c }
+    // The thread's core is blocked.
+    #[tactic(auto, unfolding(coreset::specs::Set::within_width))]
+    fn block(&mut self, first: First)
+        ensures blocked { lock_now self.new ≡ blocked_of (lock_now self.old) first.core }
+        ensures places { SamePlaces self.old self.new }
     {
-        self.blocked = coreset::set(self.blocked, c);
-        self
+        self.held.blocked = coreset::set(self.held.blocked, first.core);
     }
 }

@@ -3,7 +3,7 @@
 use Rattle.std.specs.Prelude.{ℕ, ◌+◌, min, Bool, ◌≡◌, refl, List, [], ◌∷◌, ◌++◌}
 use Rattle.std.proofs.Math.Path.{ap}
 use Rattle.std.proofs.Common.{◌∙◌}
-use borrow.Author.Tests.{eq-eqb}
+use Rattle.std.proofs.lemmas.Bool.{eq-eqb}
 use Rattle.lists.specs.laws.Lists.{same_throughout}
 use Rattle.table.specs.declared.Table.{Table}
 use Rattle.table.specs.Numbers.{max_cores}

@@ -3,7 +3,7 @@
 use Rattle.std.specs.Prelude.{ℕ, true, false, ◌≡◌, List}
 use Rattle.std.proofs.Math.Bool.{and-false}
 use Rattle.std.proofs.Common.{arith}
-use borrow.Author.Tests.{le-leb, eq-eqb, ne_eqb}
+use Rattle.std.proofs.lemmas.Bool.{le-leb, eq-eqb, ne_eqb}
 use Rattle.state.specs.Allowance.{stopped_at}
 use Rattle.table.specs.declared.Table.{Table}
 use Rattle.wire.specs.declared.answer.Answer.{Answer}

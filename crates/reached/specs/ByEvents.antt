@@ -2,7 +2,7 @@
 -- reached state.
 use Rattle.std.specs.Prelude.{refl}
 use Rattle.std.proofs.Common.{ap, ◌∙◌, subst}
-use mathlib.Core.List.{List, [], ◌∷◌, ◌++◌}
+use Rattle.std.specs.Prelude.{List, [], ◌∷◌, ◌++◌}
 use Rattle.table.specs.declared.Table.{Table}
 use Rattle.wire.specs.declared.event.Event.{Event}
 use Rattle.system.specs.declared.System.{System}

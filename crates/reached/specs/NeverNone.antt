@@ -11,10 +11,9 @@ use Rattle.table.specs.Numbers.{ready}
 use Rattle.state.specs.laws.Threads.{make_running}
 use Rattle.system.specs.declared.System.{System}
 use Rattle.system.specs.System.{state_in, core_in, gang_in, occupant_in, first_in, ahead_in}
-use Rattle.reason.specs.declared.Explained.{Explained}
 use Rattle.reason.specs.declared.Reason.TheVariants as reason
 use Rattle.reason.specs.Reasons.{Past7}
-use Rattle.reason.specs.Why.{why_of, explanation_refusal}
+use Rattle.reason.specs.Why.{Explained, why_of, explanation_refusal}
 use Rattle.reason.specs.laws.Why.{why_beyond}
 use Rattle.reason.specs.laws.FirstHeld.{past_first}
 use Rattle.reason.specs.Exactly.{Gives, none_exactly}

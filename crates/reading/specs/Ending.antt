@@ -3,8 +3,7 @@ use Rattle.std.specs.Prelude.{cond, eqb}
 use Rattle.table.specs.declared.Table.{Table}
 use Rattle.table.specs.Rules.{manned_hold}
 use Rattle.wire.specs.declared.refusal.Refusal.TheVariants.{Unfinished}
-use Rattle.reading.specs.declared.rules.Verdict.{Verdict}
-use Rattle.reading.specs.declared.rules.Verdict.TheVariants.{Accepted, Refused}
+use Rattle.reading.specs.Verdict.{Verdict, Accepted, Refused}
 
 unfoldable pub ending : Table → Verdict
 ending b =

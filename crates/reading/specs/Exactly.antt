@@ -4,8 +4,7 @@ use Rattle.std.proofs.Common.{sym, ap, subst}
 use Rattle.table.specs.declared.Table.{Table}
 use Rattle.wire.specs.declared.refusal.Refusal.{Refusal}
 use Rattle.wire.specs.declared.table_record.TableRecord.{TableRecord}
-use Rattle.reading.specs.declared.rules.Verdict.{Verdict}
-use Rattle.reading.specs.declared.rules.Verdict.TheVariants.{Accepted, Refused}
+use Rattle.reading.specs.Verdict.{Verdict, Accepted, Refused}
 use Rattle.reading.specs.Ending.{ending}
 use Rattle.reading.specs.Rows.{RefusesRecord, AcceptsRecord, RecordWay, record_bad, record_good}
 use Rattle.reading.specs.Rows.{RefusesEnd, AcceptsEnd, EndWay, end_bad, end_good}

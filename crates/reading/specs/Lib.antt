@@ -1,5 +1,5 @@
 pub mod Taken
-pub mod Parts
+pub mod Verdict
 pub mod Ending
 pub mod Turn
 pub mod Reading
@@ -13,3 +13,4 @@ pub mod Exactly
 pub mod Walk
 pub mod TableExactly
 pub mod laws
+pub mod OneReading

@@ -1,13 +1,19 @@
 -- Document 01: what reading a table's bytes comes to.
-use Rattle.std.specs.Prelude.{ℕ, zero, suc, ◌+◌, List, cond, eqb, length, drop}
+use Rattle.std.specs.Prelude.{ℕ, zero, suc, ◌+◌, List, cond, eqb, length, drop, Result, Ok, Err}
 use Rattle.table.specs.declared.Table.{Table}
 use Rattle.table.specs.Rules.{empty_table}
 use Rattle.wire.specs.Refusal.{number_of}
-use Rattle.reading.specs.declared.rules.Verdict.{Verdict}
-use Rattle.reading.specs.declared.rules.Verdict.TheVariants.{Accepted, Refused}
-use Rattle.reading.specs.declared.Reading.{Reading}
+use Rattle.reading.specs.Verdict.{Verdict, Accepted, Refused}
+use Rattle.reading.specs.declared.TableRefused.{TableRefused}
 use Rattle.reading.specs.Ending.{ending}
 use Rattle.reading.specs.Turn.{table_turn}
+
+-- What reading comes to. Accepted: the table, 0 and the length of the bytes.
+-- Refused: the empty table, the refusal's number and the place of the refused record or, for 8, the length of the bytes.
+pub record Reading : Type 0 where
+  pub table : Table
+  pub number : ℕ
+  pub place : ℕ
 
 -- "length 3 has no budget and means 1,000,000"
 abbrev pub default_budget : ℕ
@@ -17,6 +23,11 @@ default_budget = 1000000
 abbrev pub told : Verdict → Table → ℕ → Reading
 told Accepted b at = record { table = b; number = 0; place = at }
 told (Refused refusal) b at = record { table = empty_table; number = number_of refusal; place = at }
+
+-- what the reader gives of these bytes, told so
+abbrev pub told_of : List ℕ → Result Table TableRefused → Reading
+told_of s (Ok b) = told Accepted b (length s)
+told_of s (Err e) = told (Refused e.refusal) empty_table e.place
 
 -- the reading where a verdict is refused, and where it is accepted
 abbrev pub on_verdict : Verdict → Reading → Reading → Reading

@@ -8,8 +8,7 @@ use Rattle.wire.specs.declared.refusal.Refusal.{Refusal}
 use Rattle.wire.specs.declared.refusal.Refusal.TheVariants.{NotCoresFirst, TooMany, OutOfRange, PriorityTaken, Unfinished}
 use Rattle.wire.specs.declared.table_record.TableRecord.{TableRecord}
 use Rattle.wire.specs.declared.table_record.TableRecord.TheVariants as put
-use Rattle.reading.specs.declared.rules.Verdict.{Verdict}
-use Rattle.reading.specs.declared.rules.Verdict.TheVariants.{Accepted, Refused}
+use Rattle.reading.specs.Verdict.{Verdict, Accepted, Refused}
 use Rattle.reading.specs.Building.{Priority, Budget}
 use Rattle.reading.specs.Taken.{Taken, record_refused, record_accepted, with_cores, with_gang, with_thread}
 

@@ -1,5 +1,5 @@
 -- What may be relied on of every reading: an accepted table is well formed, a refused one empty, and the number and the place are document 01's.
-use Rattle.std.specs.Prelude.{ℕ, zero, suc, ◌+◌, ◌≤◌, ◌≡◌, refl, Bool, true, false, List, eqb, length, drop}
+use Rattle.std.specs.Prelude.{ℕ, zero, suc, ◌+◌, ◌≤◌, ◌≡◌, refl, Bool, true, false, List, eqb, length, drop, Ok}
 use Rattle.std.proofs.Common.{arith, length-drop, eqb-true}
 use Rattle.std.proofs.lemmas.Bool.{eqb-false}
 use Rattle.table.specs.declared.Table.{Table}
@@ -9,17 +9,15 @@ use Rattle.wire.specs.Refusal.{number_of}
 use Rattle.wire.specs.laws.Refusal.{some_number}
 use Rattle.wire.specs.declared.refusal.Refusal.{Refusal}
 use Rattle.wire.specs.declared.refusal.Refusal.TheVariants.{Unfinished}
-use Rattle.wire.specs.declared.table_record.NextTableRecord.{NextTableRecord}
-use Rattle.wire.specs.declared.table_record.NextTableRecord.TheVariants as found
+use Rattle.wire.specs.NextTableRecord.{NextTableRecord}
+use Rattle.wire.specs.NextTableRecord as found
 use Rattle.wire.specs.Table.{next_table_record}
-use Rattle.reading.specs.declared.Reading.{Reading}
-use Rattle.reading.specs.declared.rules.Verdict.{Verdict}
-use Rattle.reading.specs.declared.rules.Verdict.TheVariants.{Accepted, Refused}
+use Rattle.reading.specs.Verdict.{Verdict, Accepted, Refused}
 use Rattle.reading.specs.Ending.{ending}
 use Rattle.reading.specs.laws.Ending.{ends_no_cores, ends_no_gang, ends_unmanned, ends_whole}
 use Rattle.reading.specs.Turn.{table_turn_with, table_turn}
 use Rattle.reading.specs.laws.TableTurn.{turn_whole}
-use Rattle.reading.specs.Reading.{told, table_ends, read_from, reading_of}
+use Rattle.reading.specs.Reading.{Reading, told, table_ends, read_from, reading_of}
 use Rattle.reading.specs.laws.Reading.{read_end, read_stop, read_go}
 use Rattle.reading.specs.Building.{Building}
 use Rattle.reading.specs.laws.Building.{building_empty, building_done}
@@ -103,7 +101,7 @@ unfolding table_turn
 turn_kept d b s k = go (next_table_record s)
   where
     go : (f : NextTableRecord) → Building (table_turn_with d b f).taken.table
-    go (found.Record one next) = taken_kept b k d one
+    go (Ok one) = taken_kept b k d one.found
     go (found.Refused refusal) = k
 
 -- reading on at a place, in n turns

@@ -2,9 +2,8 @@
 use Rattle.std.specs.Prelude.{ℕ, List, ◌≡◌}
 use Rattle.std.proofs.Common.{ap}
 use Rattle.system.specs.System.{fresh_system, empty_system}
-use Rattle.reading.specs.declared.Reading.{Reading}
 use Rattle.reading.specs.declared.SystemRead.{SystemRead}
-use Rattle.reading.specs.Reading.{reading_of}
+use Rattle.reading.specs.Reading.{Reading, reading_of}
 use Rattle.reading.specs.Sound.{refused_empty}
 
 -- a reading with its table made a system

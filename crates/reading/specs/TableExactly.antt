@@ -8,7 +8,7 @@ use Rattle.wire.specs.Record.{record_at}
 use Rattle.wire.specs.Refusal.{number_of}
 use Rattle.wire.specs.laws.Refusal.{some_number, one_number}
 use Rattle.wire.specs.declared.kinds.Stream.TheVariants as stream
-use Rattle.wire.specs.declared.record.Seen.TheVariants.{Refused}
+use Rattle.wire.specs.Seen.{Refused}
 use Rattle.wire.specs.declared.refusal.Refusal.{Refusal}
 use Rattle.reading.specs.declared.SystemRead.{SystemRead}
 use Rattle.reading.specs.Rows.{NoCores}

@@ -10,13 +10,16 @@ use Rattle.wire.specs.declared.refusal.Refusal.{Refusal}
 use Rattle.wire.specs.declared.refusal.Refusal.TheVariants.{NotCoresFirst, TooMany, OutOfRange, PriorityTaken}
 use Rattle.wire.specs.declared.table_record.TableRecord.{TableRecord}
 use Rattle.wire.specs.declared.table_record.TableRecord.TheVariants as put
-use Rattle.reading.specs.declared.rules.Verdict.{Verdict}
-use Rattle.reading.specs.declared.rules.Verdict.TheVariants.{Accepted, Refused}
+use Rattle.reading.specs.Verdict.{Verdict, Accepted, Refused}
 
 -- the table with a record in it, or as it came where the record is refused
 pub record Taken : Type 0 where
   pub table : Table
   pub verdict : Verdict
+
+-- the table as a record leaves it, beside the verdict on the record
+abbrev pub taken_of : Table → Verdict → Taken
+taken_of b verdict = record { table = b; verdict = verdict }
 
 -- the number of a verdict: 0, or the refusal's
 abbrev pub verdict_number : Verdict → ℕ

@@ -6,7 +6,7 @@ use Rattle.wire.specs.Question.{Question}
 use Rattle.wire.specs.Record.{payload_at}
 use Rattle.wire.specs.Table.{table_record_of}
 use Rattle.wire.specs.declared.kinds.Stream.TheVariants as stream
-use Rattle.wire.specs.declared.record.Seen.TheVariants.{Record, Refused}
+use Rattle.wire.specs.Seen.{Record, Refused}
 use Rattle.wire.specs.declared.refusal.Refusal.{Refusal}
 use Rattle.wire.specs.declared.table_record.TableRecord.{TableRecord}
 use Rattle.reading.specs.Rows.{RefusesRecord, AcceptsRecord, RefusesEnd, AcceptsEnd}

@@ -1,24 +1,21 @@
 // A CORES record.
-ghost use Rattle.std.specs.Prelude.{◌≡◌, List, ℕ};
-ghost use Rattle.table.specs.Rules.{table_of};
-ghost use Rattle.reading.specs.Parts.{taken_with};
-ghost use Rattle.reading.specs.Taken.{cores_taken};
+ghost use Rattle.std.specs.Prelude.{◌≡◌};
+ghost use Rattle.reading.specs.Taken.{taken_of, cores_taken};
 
-use crate::rules::{Took, accepted, one_to, refused};
-use table::{MAX_CORES, Sizes};
+use table::{MAX_CORES, Table};
 use wire::refusal::Refusal;
 
 // CORES comes first and once: a table has no cores before it, and some after.
-pub(crate) fn take_cores(mut sizes: Sizes, count: u8) -> Took
-    ensures { (priority budget gang core : List ℕ)
-        → taken_with result priority budget gang core ≡ cores_taken (table_of sizes priority budget gang core) count }
+#[tactic(auto, unfolding(crate::specs::Taken::cores_taken, table::specs::Rules::within))]
+pub(crate) fn take_cores(table: &mut Table, count: u8) -> Result<(), Refusal>
+    ensures { taken_of table.new result ≡ cores_taken table.old count }
 {
-    if sizes.cores != 0 {
-        return refused(sizes, Refusal::NotCoresFirst);
+    if table.sizes.cores != 0 {
+        return Err(Refusal::NotCoresFirst);
     }
-    if !one_to(MAX_CORES, count) {
-        return refused(sizes, Refusal::OutOfRange);
+    if !(1..=MAX_CORES).contains(&count) {
+        return Err(Refusal::OutOfRange);
     }
-    sizes.cores = count;
-    accepted(sizes)
+    table.sizes.cores = count;
+    Ok(())
 }

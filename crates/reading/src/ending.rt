@@ -1,25 +1,24 @@
 // Whether a table may end: each gang has a thread by then.
-ghost use Rattle.std.specs.Prelude.{◌≡◌, List, ℕ};
-ghost use Rattle.table.specs.Rules.{table_of};
+ghost use Rattle.std.specs.Prelude.{◌≡◌};
 ghost use Rattle.reading.specs.Ending.{ending};
 
-use crate::rules::Verdict;
-use table::Sizes;
+use table::Table;
 use wire::refusal::Refusal;
 
 // The table's end.
-pub(crate) fn ending(sizes: Sizes, gang: &[u8; 128]) -> Verdict
-    ensures { (priority budget core : List ℕ) → result ≡ ending (table_of sizes priority budget gang.now core) }
+#[tactic(auto, unfolding(crate::specs::Ending::ending))]
+pub(crate) fn ending(table: &Table) -> Result<(), Refusal>
+    ensures { result ≡ ending table.now }
 {
-    if sizes.cores == 0 {
-        return Verdict::Refused(Refusal::Unfinished);
+    if table.sizes.cores == 0 {
+        return Err(Refusal::Unfinished);
     }
-    if sizes.gangs == 0 {
-        return Verdict::Refused(Refusal::Unfinished);
+    if table.sizes.gangs == 0 {
+        return Err(Refusal::Unfinished);
     }
-    if table::manned(gang, sizes.gangs, sizes.threads) {
-        Verdict::Accepted
+    if table.lent().manned() {
+        Ok(())
     } else {
-        Verdict::Refused(Refusal::Unfinished)
+        Err(Refusal::Unfinished)
     }
 }

@@ -2,17 +2,14 @@
 #![tactic(auto)]
 
 ghost use Rattle.std.specs.Prelude.{◌≡◌};
-ghost use Rattle.table.specs.Rules.{empty_table};
-ghost use Rattle.reading.specs.declared.rules.Verdict.TheVariants.{Refused};
-ghost use Rattle.table.specs.Rules.{table_of};
-ghost use Rattle.reading.specs.Reading.{default_budget, told, table_ends, reading_of};
+ghost use Rattle.reading.specs.Reading.{default_budget, told_of, reading_of};
 ghost use Rattle.reading.specs.SystemRead.{system_read};
 
-use rules::Verdict;
 use system::System;
-use table::{Sizes, Table};
+use table::Table;
+use wire::record::next;
 use wire::refusal::Refusal;
-use wire::table_record::NextTableRecord;
+use wire::table_record::TableRecord;
 
 mod cores;
 mod ending;
@@ -23,23 +20,22 @@ mod thread;
 // The budget of a short GANG.
 pub const DEFAULT_BUDGET: u32 = 1000000;
 
-// What reading comes to. Accepted: the table, 0 and the length of the bytes.
-// Refused: the empty table, the refusal's number and the place of the refused record or, for 8, the length of the bytes.
-#[derive(Clone, Copy)]
-pub struct Reading {
-    pub table: Table,
-    pub number: u8,
+// Why a table is refused, and the place of the refused record or, for 8, the length of the bytes.
+#[derive(Clone, Copy, PartialEq, Eq, Debug)]
+pub struct TableRefused {
+    pub refusal: Refusal,
     pub place: usize,
 }
 
 // Reads a whole table.
-pub fn read_table(bytes: &[u8]) -> Reading
-    ensures { result ≡ reading_of default_budget bytes.now }
+pub fn read_table(bytes: &[u8]) -> Result<Table, TableRefused>
+    ensures { told_of bytes.now result ≡ reading_of default_budget bytes.now }
 {
     read_with(DEFAULT_BUDGET, bytes)
 }
 
-// What reading comes to, as a system: a fresh one of the accepted table, or the empty system beside the refusal's number and place.
+// What reading comes to, as a system. Accepted: a fresh one of the table, 0 and the length of the bytes.
+// Refused: the empty system, the refusal's number and the place.
 #[repr(C)]
 #[derive(Clone, Copy)]
 pub struct SystemRead {
@@ -52,89 +48,36 @@ pub struct SystemRead {
 pub fn read_system(bytes: &[u8]) -> SystemRead
     ensures { result ≡ system_read default_budget bytes.now }
 {
-    let read = read_table(bytes);
-    let table = read.table;
-    SystemRead {
-        system: System::fresh(table),
-        number: read.number,
-        place: read.place,
-    }
-}
-
-// The table's parts are held apart and changed where they lie; the Table is made once, at the end.
-fn read_with(default: u32, bytes: &[u8]) -> Reading
-    ensures { result ≡ reading_of default bytes.now }
-{
-    let mut sizes = Sizes {
-        cores: 0,
-        gangs: 0,
-        threads: 0,
-    };
-    let mut priority = [0u8; 32];
-    let mut budget = [0u32; 32];
-    let mut gang = [0u8; 128];
-    let mut core = [0u8; 128];
-    let mut at: usize = 0;
-    while at < bytes.len() {
-        match wire::table_record::next_table_record(&bytes[at..]) {
-            NextTableRecord::Record { record, next } => {
-                let took = rules::take(
-                    default,
-                    sizes,
-                    &mut priority,
-                    &mut budget,
-                    &mut gang,
-                    &mut core,
-                    record,
-                );
-                let verdict = took.verdict;
-                if let Verdict::Refused(refusal) = verdict {
-                    return refused_at(refusal, at);
-                }
-                let more = took.sizes;
-                sizes = more;
-                at += next;
-            }
-            NextTableRecord::Refused(refusal) => return refused_at(refusal, at),
-        }
-    }
-    ended(sizes, priority, budget, gang, core, at)
-}
-
-// The table's end.
-fn ended(
-    sizes: Sizes,
-    priority: [u8; 32],
-    budget: [u32; 32],
-    gang: [u8; 128],
-    core: [u8; 128],
-    place: usize,
-) -> Reading
-    ensures { result ≡ table_ends (table_of sizes priority budget gang core) place }
-{
-    match ending::ending(sizes, &gang) {
-        Verdict::Accepted => Reading {
-            table: Table {
-                sizes,
-                priority,
-                budget,
-                gang,
-                core,
-            },
+    match read_table(bytes) {
+        Ok(table) => SystemRead {
+            system: System::fresh(table),
             number: 0,
-            place,
+            place: bytes.len(),
         },
-        Verdict::Refused(refusal) => refused_at(refusal, place),
+        Err(refused) => SystemRead {
+            system: System::empty(),
+            number: u8::from(refused.refusal),
+            place: refused.place,
+        },
     }
 }
 
-// The empty table, beside why and where.
-fn refused_at(refusal: Refusal, place: usize) -> Reading
-    ensures { result ≡ told (Refused refusal) empty_table place }
+// The records from the first byte on, each taken into the table where it lies; then the table's end.
+fn read_with(default: u32, bytes: &[u8]) -> Result<Table, TableRefused>
+    ensures { told_of bytes.now result ≡ reading_of default bytes.now }
 {
-    Reading {
-        table: Table::empty(),
-        number: wire::refusal::number_of(refusal),
-        place,
+    let mut table = Table::empty();
+    let mut at: usize = 0;
+    // No `for`: the next place is a whole record further, and what the record is says how long it is.
+    while at < bytes.len() {
+        let here = |refusal| TableRefused { refusal, place: at };
+        let one = next::<TableRecord>(&bytes[at..]).map_err(here)?;
+        rules::take(&mut table, default, one.found).map_err(here)?;
+        at += one.next;
     }
+    ending::ending(&table).map_err(|refusal| TableRefused {
+        refusal,
+        place: bytes.len(),
+    })?;
+    Ok(table)
 }

@@ -1,6 +1,6 @@
 -- Document 02, K3: "For each reason we want it shown that it is given exactly when it is true and no earlier one is." And the two refusals, as
 -- exactly.
-use Rattle.std.specs.Prelude.{ℕ, ◌<◌, ◌≤◌, Bool, true, false, ◌≡◌, ◌↔◌}
+use Rattle.std.specs.Prelude.{ℕ, ◌<◌, ◌≤◌, Bool, true, false, Result, Ok, ◌≡◌, ◌↔◌}
 use Rattle.std.proofs.Math.Path.{refl}
 use Rattle.std.proofs.Common.{sym, ap, ◌∙◌, subst, arith}
 use Rattle.std.proofs.Math.Decide.{dec_lt}
@@ -8,32 +8,31 @@ use Rattle.system.specs.declared.System.{System}
 use Rattle.system.specs.WellFormed.{well_formed}
 use Rattle.reason.specs.declared.Reason.{Reason}
 use Rattle.reason.specs.declared.Reason.TheVariants as reason
-use Rattle.reason.specs.declared.Explanation.TheVariants as explanation
-use Rattle.reason.specs.declared.Explained.{Explained}
 use Rattle.reason.specs.Reasons.{IsFinished, IsWaiting, RunsLocked, RunsDisplaced, ItsCoreOwes, IsBehind, IsOutranked, Past1, Past2, Past3}
 use Rattle.reason.specs.Reasons.{Past4, Past5, Past6, Past7, FirstHolds}
-use Rattle.reason.specs.Why.{explanation_refusal, reason_of, why_of}
+use Rattle.wire.specs.declared.refusal.Refusal.{Refusal}
+use Rattle.reason.specs.Why.{Explained, explanation_refusal, reason_of, why_of}
 use Rattle.reason.specs.laws.Why.{why_given, why_beyond, why_unformed}
 use Rattle.reason.specs.laws.FirstHeld.{reason_first, first_reason}
 
 -- the question about thread t gives the reason r
 abbrev pub Gives : System → ℕ → Reason → Type 0
-Gives s t r = (why_of s t).explanation ≡ explanation.Reason r
+Gives s t r = (why_of s t).explanation ≡ Ok r
 
-same_reason : {r q : Reason} → explanation.Reason r ≡ explanation.Reason q → r ≡ q
+same_reason : {r q : Reason} → ◌≡◌ {A = Result Reason Refusal} (Ok r) (Ok q) → r ≡ q
 same_reason e = cc
 
 -- ---- the reasons, of a thread of a well-formed system
 
 module _ (s : System) (w : well_formed s ≡ true) (t : ℕ) (l : t < s.table.sizes.threads) where
-  answered : (why_of s t).explanation ≡ explanation.Reason (reason_of s t)
+  answered : (why_of s t).explanation ≡ Ok (reason_of s t)
   answered = ap (λ (x : Explained). x.explanation) (why_given s t w l)
 
   -- whichever it is
   pub given_exactly : (r : Reason) → Gives s t r ↔ FirstHolds s t r
   given_exactly r = (
     λ g. subst (FirstHolds s t) (same_reason (sym answered ∙ g)) (reason_first s t),
-    λ h. answered ∙ ap explanation.Reason (first_reason s t r h),
+    λ h. answered ∙ ap Ok (first_reason s t r h),
   )
 
   pub finished_exactly : Gives s t reason.Finished ↔ IsFinished s t

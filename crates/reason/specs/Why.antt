@@ -1,17 +1,15 @@
 -- Document 02, K3: a reason's number and the thread or gang that it names, the reason by tests, and the question with its refusals, "14, then 6".
-use Rattle.std.specs.Prelude.{ℕ, cond, eqb, ltb}
+use Rattle.std.specs.Prelude.{ℕ, Result, Ok, Err, cond, eqb, ltb}
 use Rattle.coreset.specs.Set.{has}
 use Rattle.table.specs.Numbers.{finished, waiting}
 use Rattle.wire.specs.Refusal.{number_of}
+use Rattle.wire.specs.declared.refusal.Refusal.{Refusal}
 use Rattle.wire.specs.declared.refusal.Refusal.TheVariants.{OutOfRange, NotWellFormed}
 use Rattle.system.specs.declared.System.{System}
 use Rattle.system.specs.System.{state_in, core_in, gang_in, running, first_in, ahead_in}
 use Rattle.system.specs.WellFormed.{well_formed}
 use Rattle.reason.specs.declared.Reason.{Reason}
 use Rattle.reason.specs.declared.Reason.TheVariants as reason
-use Rattle.reason.specs.declared.Explanation.{Explanation}
-use Rattle.reason.specs.declared.Explanation.TheVariants as explanation
-use Rattle.reason.specs.declared.Explained.{Explained}
 
 -- ---- numbers and values
 
@@ -37,18 +35,23 @@ reason_which (reason.ThreadAhead u) = u
 reason_which (reason.GangHolds g) = g
 reason_which reason.NoneOfThese = 255
 
+-- what the question finds, beside the system that it leaves
+pub record Explained : Type 0 where
+  pub system : System
+  pub explanation : Result Reason Refusal
+
 -- the refusal's number, 0 where there is a reason; where refused, "a question's value is then 0"
-abbrev pub explanation_refusal : Explanation → ℕ
-explanation_refusal (explanation.Reason r) = 0
-explanation_refusal (explanation.Refused refusal) = number_of refusal
+abbrev pub explanation_refusal : Result Reason Refusal → ℕ
+explanation_refusal (Ok r) = 0
+explanation_refusal (Err refusal) = number_of refusal
 
-abbrev pub explanation_number : Explanation → ℕ
-explanation_number (explanation.Reason r) = reason_number r
-explanation_number (explanation.Refused refusal) = 0
+abbrev pub explanation_number : Result Reason Refusal → ℕ
+explanation_number (Ok r) = reason_number r
+explanation_number (Err refusal) = 0
 
-abbrev pub explanation_which : Explanation → ℕ
-explanation_which (explanation.Reason r) = reason_which r
-explanation_which (explanation.Refused refusal) = 0
+abbrev pub explanation_which : Result Reason Refusal → ℕ
+explanation_which (Ok r) = reason_which r
+explanation_which (Err refusal) = 0
 
 -- ---- the reason, by tests: `Exactly` says that it is the first that holds
 
@@ -76,11 +79,11 @@ reason_of s t =
 -- ---- the question
 
 -- the system is handed back as it came
-abbrev pub explained_of : System → Explanation → Explained
+abbrev pub explained_of : System → Result Reason Refusal → Explained
 explained_of s e = record { system = s; explanation = e }
 
 unfoldable pub why_of : System → ℕ → Explained
 why_of s t = explained_of s
     (cond (well_formed s)
-    (cond (ltb t s.table.sizes.threads) (explanation.Reason (reason_of s t)) (explanation.Refused OutOfRange))
-    (explanation.Refused NotWellFormed))
+    (cond (ltb t s.table.sizes.threads) (Ok (reason_of s t)) (Err OutOfRange))
+    (Err NotWellFormed))

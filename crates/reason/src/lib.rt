@@ -2,8 +2,7 @@
 #![tactic(auto)]
 
 ghost use Rattle.std.specs.Prelude.{◌≡◌};
-ghost use Rattle.reason.specs.Why.{reason_number, reason_which, explanation_refusal, explanation_number, explanation_which, ready_reason};
-ghost use Rattle.reason.specs.Why.{reason_of, why_of};
+ghost use Rattle.reason.specs.Why.{reason_number, reason_which, outranked_reason, ready_reason, reason_of, why_of};
 
 use lists::at;
 use state::threads::is_running;
@@ -11,7 +10,7 @@ use system::System;
 use wire::refusal::Refusal;
 
 // Why a thread stands as it does, in the order in which they are asked.
-#[derive(Clone, Copy)]
+#[derive(Clone, Copy, PartialEq, Eq, Debug)]
 pub enum Reason {
     Finished,
     Waiting,
@@ -25,112 +24,57 @@ pub enum Reason {
     NoneOfThese,
 }
 
-// The reason, or why the question is refused.
-#[derive(Clone, Copy)]
-pub enum Explanation {
-    Reason(Reason),
-    Refused(Refusal),
-}
-
-// What the question finds, beside the system as it came.
-#[derive(Clone, Copy)]
-pub struct Explained {
-    pub system: System,
-    pub explanation: Explanation,
-}
-
 // A reason's number: its place in the request.
-pub fn reason_number(reason: Reason) -> u8
-    ensures { result ≡ reason_number reason }
-{
-    match reason {
-        Reason::Finished => 1,
-        Reason::Waiting => 2,
-        Reason::RunningLocked => 3,
-        Reason::RunningDisplaced => 4,
-        Reason::CoreOwes => 5,
-        Reason::ThreadAhead(_) => 6,
-        Reason::GangHolds(_) => 7,
-        Reason::NoneOfThese => 8,
+impl From<Reason> for u8 {
+    ghost from_gives = { λ reason n. n ≡ reason_number reason };
+
+    fn from(reason: Reason) -> u8 {
+        match reason {
+            Reason::Finished => 1,
+            Reason::Waiting => 2,
+            Reason::RunningLocked => 3,
+            Reason::RunningDisplaced => 4,
+            Reason::CoreOwes => 5,
+            Reason::ThreadAhead(_) => 6,
+            Reason::GangHolds(_) => 7,
+            Reason::NoneOfThese => 8,
+        }
     }
 }
 
-// The thread or gang that a reason names, or NONE.
-pub fn reason_which(reason: Reason) -> u8
-    ensures { result ≡ reason_which reason }
-{
-    match reason {
-        Reason::Finished => coreset::NONE,
-        Reason::Waiting => coreset::NONE,
-        Reason::RunningLocked => coreset::NONE,
-        Reason::RunningDisplaced => coreset::NONE,
-        Reason::CoreOwes => coreset::NONE,
-        Reason::ThreadAhead(thread) => thread,
-        Reason::GangHolds(gang) => gang,
-        Reason::NoneOfThese => coreset::NONE,
-    }
-}
-
-// The refusal number of an explanation, 0 where it has a reason.
-pub fn explanation_refusal(explanation: Explanation) -> u8
-    ensures { result ≡ explanation_refusal explanation }
-{
-    match explanation {
-        Explanation::Reason(_) => 0,
-        Explanation::Refused(refusal) => wire::refusal::number_of(refusal),
-    }
-}
-
-// The number of its reason, 0 where the question is refused.
-pub fn explanation_number(explanation: Explanation) -> u8
-    ensures { result ≡ explanation_number explanation }
-{
-    match explanation {
-        Explanation::Reason(reason) => reason_number(reason),
-        Explanation::Refused(_) => 0,
-    }
-}
-
-// The thread or gang that its reason names, 0 where the question is refused.
-pub fn explanation_which(explanation: Explanation) -> u8
-    ensures { result ≡ explanation_which explanation }
-{
-    match explanation {
-        Explanation::Reason(reason) => reason_which(reason),
-        Explanation::Refused(_) => 0,
+impl Reason {
+    // The thread or gang that a reason names, or NONE.
+    pub fn which(self) -> u8
+        ensures { result ≡ reason_which self }
+    {
+        match self {
+            Reason::ThreadAhead(thread) => thread,
+            Reason::GangHolds(gang) => gang,
+            _ => coreset::NONE,
+        }
     }
 }
 
 // The first reason that holds of thread t: 14 first, then 6.
-pub fn why(system: System, t: u8) -> Explained
-    ensures { result ≡ why_of system t }
+#[tactic(auto, unfolding(crate::specs::Why::why_of))]
+pub fn why(system: &System, t: u8) -> Result<Reason, Refusal>
+    ensures { result ≡ (why_of system.now t).explanation }
 {
-    if system.well_formed() {
-        if t < system.table.sizes.threads {
-            Explained {
-                system,
-                explanation: Explanation::Reason(reason_in(system, t)),
-            }
-        } else {
-            Explained {
-                system,
-                explanation: Explanation::Refused(Refusal::OutOfRange),
-            }
-        }
-    } else {
-        Explained {
-            system,
-            explanation: Explanation::Refused(Refusal::NotWellFormed),
-        }
+    if !system.well_formed() {
+        return Err(Refusal::NotWellFormed);
     }
+    if system.table.sizes.threads <= t {
+        return Err(Refusal::OutOfRange);
+    }
+    Ok(reason_in(system, t))
 }
 
 // Of a thread that is finished, that waits or that runs; and else of one that is ready.
-fn reason_in(system: System, t: u8) -> Reason
-    ensures { result ≡ reason_of system t }
+#[tactic(auto, unfolding(crate::specs::Why::reason_of))]
+fn reason_in(system: &System, t: u8) -> Reason
+    ensures { result ≡ reason_of system.now t }
 {
-    let table = system.table;
-    let lock = system.lock;
+    let table = system.table.lent();
     let state = at(&system.state, t);
     if state == table::FINISHED {
         return Reason::Finished;
@@ -138,8 +82,8 @@ fn reason_in(system: System, t: u8) -> Reason
     if state == table::WAITING {
         return Reason::Waiting;
     }
-    if is_running(&system.state, &table.core, &lock.occupant, t) {
-        if coreset::test(lock.locked, at(&table.core, t)) {
+    if is_running(&system.state, table, &system.lock.occupant, t) {
+        if coreset::test(system.lock.locked, at(&system.table.core, t)) {
             return Reason::RunningLocked;
         }
         return Reason::RunningDisplaced;
@@ -148,32 +92,32 @@ fn reason_in(system: System, t: u8) -> Reason
 }
 
 // Of a thread that is ready and does not run.
-fn ready_reason(system: System, t: u8) -> Reason
-    ensures { result ≡ ready_reason system t }
+#[tactic(auto, unfolding(crate::specs::Why::ready_reason))]
+fn ready_reason(system: &System, t: u8) -> Reason
+    ensures { result ≡ ready_reason system.now t }
 {
-    let table = system.table;
-    let lock = system.lock;
-    let c = at(&table.core, t);
-    if coreset::test(lock.owing, c) {
+    let c = at(&system.table.core, t);
+    if coreset::test(system.lock.owing, c) {
         return Reason::CoreOwes;
     }
-    let first = table::first_ready(
-        &system.state,
-        &table.core,
-        &table.gang,
-        &table.priority,
-        table.sizes.threads,
-        c,
-    );
+    let first = system.table.lent().first_ready(&system.state, c);
     if first != t {
         return Reason::ThreadAhead(first);
     }
-    if lock.holder == coreset::NONE {
+    outranked_reason(system, t)
+}
+
+// Of a thread that is its core's first ready one: whether a gang of higher priority holds the lock.
+#[tactic(auto, unfolding(crate::specs::Why::outranked_reason))]
+fn outranked_reason(system: &System, t: u8) -> Reason
+    ensures { result ≡ outranked_reason system.now t }
+{
+    let holder = system.lock.holder;
+    if holder == coreset::NONE {
         return Reason::NoneOfThese;
     }
-    let g = at(&table.gang, t);
-    if table::ahead(&table.priority, lock.holder, g) {
-        return Reason::GangHolds(lock.holder);
+    if system.table.lent().ahead(holder, at(&system.table.gang, t)) {
+        return Reason::GangHolds(holder);
     }
     Reason::NoneOfThese
 }

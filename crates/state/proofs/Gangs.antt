@@ -1,6 +1,8 @@
 -- One thread more: what a turn of the loops over a gang's threads makes of the states and of the owing cores.
 use Rattle.std.proofs.Common.{ℕ, ◌+◌, ◌≡◌, List, set, add-one, eq-eqb, ne_eqb}
 use Rattle.coreset.specs.Set.{within_width}
+use Rattle.ranges.specs.laws.Pass.{upto_all}
+use Rattle.ranges.specs.laws.Range.{every_more}
 use Rattle.table.specs.Numbers.{ready}
 use Rattle.table.specs.Order.{gang_of, core_of}
 use Rattle.state.specs.Threads.{readied, owed_by}
@@ -22,3 +24,11 @@ module _ (core gang : List ℕ) (g n owing m : ℕ) (h : m ≡ owed_by core gang
   pub owed_none : (gang_of gang n ≡ g → ⊥) → m ≡ owed_by core gang g (n + 1) owing
   unfolding owed_by
   owed_none e = rw (add-one, ne_eqb (gang_of gang n) g e) h
+
+-- ---- what the loops go by: at the start, after one turn more, and at the end
+
+pub ruleset readied_so_far = (upto_all, readied_one, readied_none)
+
+pub ruleset owed_so_far = (upto_all, owed_one, owed_none)
+
+pub ruleset finished_so_far = (upto_all, every_more)

@@ -2,40 +2,33 @@
 ghost use Rattle.std.specs.Prelude.{◌≡◌};
 ghost use Rattle.state.specs.Allowance.{sum_of, stopped_at};
 
-use lists::{at_or, value_at};
+use lists::{at, at_or};
+use table::TableRef;
 
 // The most that a TRAFFIC may carry, and that a kept count comes to.
 pub const MAX_TRAFFIC: u32 = 1000000;
 
 // The kept count and some transactions together, at 1,000,000 at most.
+#[tactic(auto, unfolding(crate::specs::Allowance::sum_of))]
 pub fn sum_of(kept: u32, transactions: u32) -> u32
     ensures { result ≡ sum_of kept transactions }
 {
-    let sum = kept as u64 + transactions as u64;
-    if sum < MAX_TRAFFIC as u64 {
-        sum as u32
-    } else {
-        MAX_TRAFFIC
-    }
+    kept.saturating_add(transactions).min(MAX_TRAFFIC)
 }
 
 // Whether core c is stopped: no occupant, the lock held, and its kept count at least the holder's budget.
-pub fn is_stopped<'a>(
-    occupant: &'a [u8; 32],
+#[tactic(auto, unfolding(crate::specs::Allowance::stopped_at, crate::specs::Allowance::holder_budget))]
+pub fn is_stopped(
+    occupant: &[u8; 32],
     holder: u8,
-    budget: &'a [u32; 32],
-    kept: &'a [u32; 32],
+    table: TableRef<'_>,
+    kept: &[u32; 32],
     c: u8,
 ) -> bool
-    ensures { result ≡ stopped_at occupant.now holder budget.now kept.now c }
+    ensures { result ≡ stopped_at occupant.now holder table.entry.budget.now kept.now c }
 {
-    if at_or(occupant, c, coreset::NONE) == coreset::NONE {
-        if holder == coreset::NONE {
-            false
-        } else {
-            value_at(budget, holder) <= value_at(kept, c)
-        }
-    } else {
-        false
-    }
+    let budget = table.budget;
+    at_or(occupant, c, coreset::NONE) == coreset::NONE
+        && holder != coreset::NONE
+        && at(budget, holder) <= at(kept, c)
 }

@@ -4,6 +4,5 @@ pub mod WellFormed
 pub mod Events
 pub mod Questions
 pub mod Parts
-pub mod InPlace
 pub mod OneStep
 pub mod laws

@@ -1,4 +1,4 @@
--- The promise of `steps::step` allows one answer and one list for each part that it is lent.
+-- The promise of `SystemMut::step` allows one answer, and one value of each part that it is lent.
 use Rattle.std.specs.Prelude.{ℕ, List, ◌≡◌, refl}
 use Rattle.std.proofs.Common.{sym}
 use Rattle.std.proofs.Math.Path.{ap}
@@ -6,14 +6,14 @@ use Rattle.lock.specs.declared.Held.{Held}
 use Rattle.lock.specs.OneHeld.{one_held}
 use Rattle.lock.specs.Serve.{lock_of}
 use Rattle.table.specs.declared.Sizes.{Sizes}
+use Rattle.wire.specs.declared.answer.Answer.{Answer}
 use Rattle.wire.specs.declared.event.Event.{Event}
 use Rattle.wire.specs.Promise.{one_answer}
 use Rattle.system.specs.declared.System.{System}
-use Rattle.system.specs.declared.steps.Stepped.{Stepped}
 use Rattle.system.specs.declared.events.Reply.{Reply}
+use Rattle.system.specs.declared.parts.SystemMut.{SystemMut}
 use Rattle.system.specs.Events.{step_of, reply_of}
-use Rattle.system.specs.InPlace.{StepInPlace}
-use Rattle.system.specs.Parts.{system_of, stepped_of}
+use Rattle.system.specs.Parts.{system_now, system_of}
 
 -- the parts that an event may change, of two systems after it
 pub record SameParts (state number served skipped job : List ℕ) (held : Held) (occupant kept : List ℕ)
@@ -45,16 +45,29 @@ module _ (sizes : Sizes) (priority budget gang core : List ℕ) {state number se
     kept_counts = ap (λ (s : System). s.kept) e;
   }
 
-  -- two answers that the promise allows are one, and so is every part after the event
-  pub one_step : (before : System) (event : Event) (r q : Stepped)
-      → StepInPlace before event (system_of sizes priority budget gang core state number served skipped job r.held occupant kept) r
-      → StepInPlace before event (system_of sizes priority budget gang core state' number' served' skipped' job' q.held occupant' kept') q
-      → (r ≡ q) × SameParts state number served skipped job r.held occupant kept state' number' served' skipped' job' q.held occupant' kept'
-  one_step before event r q e f = (λ i. stepped_of (parts.held_same i) (same i).answer, parts)
-    where
-      same : reply_of (system_of sizes priority budget gang core state number served skipped job r.held occupant kept) r.answer
-          ≡ reply_of (system_of sizes priority budget gang core state' number' served' skipped' job' q.held occupant' kept') q.answer
-      same = one_answer (step_of before event) (sym e) (sym f)
+-- what an event does in place: its step leads from the system of the parts before to that of the parts after, and to the answer
+abbrev pub StepInPlace : SystemMut → Event → SystemMut → Answer → Type 0
+StepInPlace before event after a = step_of (system_now before) event ≡ reply_of (system_now after) a
 
-      parts : SameParts state number served skipped job r.held occupant kept state' number' served' skipped' job' q.held occupant' kept'
-      parts = one_parts (ap (λ (x : Reply). x.system) same)
+-- two answers that the promise allows are one, and so is every part after the event
+pub one_step : (before r q : SystemMut) (event : Event) (a b : Answer)
+    → StepInPlace before event r a → StepInPlace before event q b
+    → (a ≡ b) × SameParts r.state.now r.number.now r.served.now r.skipped.now r.job.now r.held r.occupant.now
+    r.kept.now q.state.now q.number.now q.served.now q.skipped.now q.job.now q.held q.occupant.now q.kept.now
+one_step before r q event a b e f = (
+  ap (λ (x : Reply). x.answer) same,
+  record {
+    states = ap (λ (x : Reply). x.system.state) same;
+    numbers = ap (λ (x : Reply). x.system.ledger.number) same;
+    served_counts = ap (λ (x : Reply). x.system.ledger.served) same;
+    skipped_counts = ap (λ (x : Reply). x.system.ledger.skipped) same;
+    jobs = ap (λ (x : Reply). x.system.ledger.job) same;
+    held_same = (one_held (system_now q).lock {r = r.held} {q = q.held} {o = r.occupant.now} {p = q.occupant.now}
+        (ap (λ (x : Reply). x.system.lock) same) refl).0;
+    occupants = ap (λ (x : Reply). x.system.lock.occupant) same;
+    kept_counts = ap (λ (x : Reply). x.system.kept) same;
+  },
+)
+  where
+    same : reply_of (system_now r) a ≡ reply_of (system_now q) b
+    same = one_answer (step_of (system_now before) event) (sym e) (sym f)

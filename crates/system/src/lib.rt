@@ -1,9 +1,10 @@
 // The system: a table, its threads' states, each gang's releases, the lock, and the kept counts of the allowance. Seven events change
-// it and eight questions ask about it. Each takes the system by value and hands it back beside its answer.
+// it, each of which takes the system by value and hands it back beside its answer, and eight questions ask about it.
 #![tactic(auto)]
 
 ghost use Rattle.std.specs.Prelude.{◌≡◌};
 ghost use Rattle.system.specs.System.{empty_system, fresh_system};
+ghost use Rattle.system.specs.Parts.{system_seen};
 ghost use Rattle.system.specs.WellFormed.{well_formed};
 
 use ledger::Ledger;
@@ -11,13 +12,13 @@ use lock::Lock;
 use table::Table;
 
 mod events;
+mod parts;
 mod questions;
-pub mod steps;
+mod steps;
 mod well_formed;
 
 pub use events::Reply;
-pub use questions::{Finding, Told, finding_refusal, finding_value};
-pub use well_formed::parts_ok;
+pub use parts::{SystemMut, SystemRef};
 
 #[repr(C)]
 #[derive(Clone, Copy)]
@@ -52,26 +53,23 @@ impl System {
         }
     }
 
-    // Whether the system is well formed.
-    pub fn well_formed(self) -> bool
-        ensures { result ≡ well_formed self }
+    // The system, its parts lent to be looked at.
+    pub fn lent(&self) -> SystemRef<'_>
+        ensures { system_seen result ≡ self.now }
     {
-        let lock = self.lock;
-        let held = lock.held();
-        parts_ok(
-            self.table.sizes,
-            &self.table.priority,
-            &self.table.budget,
-            &self.table.gang,
-            &self.table.core,
-            &self.state,
-            &self.ledger.number,
-            &self.ledger.served,
-            &self.ledger.skipped,
-            &self.ledger.job,
-            held,
-            &self.lock.occupant,
-            &self.kept,
-        )
+        SystemRef {
+            table: self.table.lent(),
+            state: &self.state,
+            ledger: self.ledger.lent(),
+            lock: self.lock.lent(),
+            kept: &self.kept,
+        }
+    }
+
+    // Whether the system is well formed.
+    pub fn well_formed(&self) -> bool
+        ensures { result ≡ well_formed self.now }
+    {
+        self.lent().well_formed()
     }
 }

@@ -1,156 +1,106 @@
-// The eight questions, for any system whatever: 14 first, then 6. Each hands the system back beside what it finds.
-ghost use Rattle.std.specs.Prelude.{◌≡◌};
-ghost use Rattle.system.specs.Questions.{finding_refusal, finding_value, about_all, about_one, occupant_found, stopped_found, number_found};
+// The eight questions, for any system whatever: 14 first, then 6, and else the value.
+ghost use Rattle.std.specs.Prelude.{◌≡◌, get_or};
+ghost use Rattle.system.specs.Questions.{about_all, about_one, occupant_found, stopped_found, number_found};
 ghost use Rattle.system.specs.Questions.{served_found, skipped_found, job_found, lowest_found, owing_found};
 
 use crate::System;
-use lists::{at_or, value_at};
+use lists::{at, at_or};
 use state::allowance::is_stopped;
 use wire::refusal::Refusal;
 
-// What a question finds: a value, or why it is refused.
-#[derive(Clone, Copy)]
-pub enum Finding {
-    Value(u32),
-    Refused(Refusal),
-}
-
-// What a question finds, beside the system as it came.
-#[derive(Clone, Copy)]
-pub struct Told {
-    pub system: System,
-    pub finding: Finding,
-}
-
-// The refusal number of what a question finds, 0 where it has a value.
-pub fn finding_refusal(finding: Finding) -> u8
-    ensures { result ≡ finding_refusal finding }
-{
-    match finding {
-        Finding::Value(_) => 0,
-        Finding::Refused(refusal) => wire::refusal::number_of(refusal),
-    }
-}
-
-// The value of what a question finds, 0 where it is refused.
-pub fn finding_value(finding: Finding) -> u32
-    ensures { result ≡ finding_value finding }
-{
-    match finding {
-        Finding::Value(value) => value,
-        Finding::Refused(_) => 0,
-    }
-}
-
 impl System {
     // A question about the whole system, whose answer is value.
-    fn about_all(self, value: u32) -> Told
-        ensures { result ≡ about_all self value }
+    #[tactic(auto, unfolding(crate::specs::Questions::about_all))]
+    fn about_all(&self, value: u32) -> Result<u32, Refusal>
+        ensures { result ≡ (about_all self.now value).finding }
     {
         if self.well_formed() {
-            Told {
-                system: self,
-                finding: Finding::Value(value),
-            }
+            Ok(value)
         } else {
-            Told {
-                system: self,
-                finding: Finding::Refused(Refusal::NotWellFormed),
-            }
+            Err(Refusal::NotWellFormed)
         }
     }
 
     // A question about number i, of which there are n, whose answer is value.
-    fn about_one(self, i: u8, n: u8, value: u32) -> Told
-        ensures { result ≡ about_one self i n value }
+    #[tactic(auto, unfolding(crate::specs::Questions::about_all, crate::specs::Questions::about_one))]
+    fn about_one(&self, i: u8, n: u8, value: u32) -> Result<u32, Refusal>
+        ensures { result ≡ (about_one self.now i n value).finding }
     {
-        if self.well_formed() {
-            if i < n {
-                Told {
-                    system: self,
-                    finding: Finding::Value(value),
-                }
-            } else {
-                Told {
-                    system: self,
-                    finding: Finding::Refused(Refusal::OutOfRange),
-                }
-            }
+        let value = self.about_all(value)?;
+        if i < n {
+            Ok(value)
         } else {
-            Told {
-                system: self,
-                finding: Finding::Refused(Refusal::NotWellFormed),
-            }
+            Err(Refusal::OutOfRange)
         }
+    }
+
+    // A question about gang g, whose answer is its place in this list.
+    fn about_gang(&self, g: u8, counts: &[u32; 32]) -> Result<u32, Refusal>
+        ensures { result ≡ (about_one self.now g self.now.table.sizes.gangs (get_or counts.now g 0)).finding }
+    {
+        self.about_one(g, self.table.sizes.gangs, at(counts, g))
     }
 
     // Core c's occupant, or 255.
-    pub fn occupant(self, c: u8) -> Told
-        ensures { result ≡ occupant_found self c }
+    pub fn occupant(&self, c: u8) -> Result<u32, Refusal>
+        ensures { result ≡ (occupant_found self.now c).finding }
     {
-        let lock = self.lock;
-        self.about_one(
-            c,
-            self.table.sizes.cores,
-            at_or(&lock.occupant, c, coreset::NONE) as u32,
-        )
+        let occupant = at_or(&self.lock.occupant, c, coreset::NONE);
+        self.about_one(c, self.table.sizes.cores, occupant as u32)
     }
 
     // Whether core c is stopped: 1 or 0.
-    pub fn stopped(self, c: u8) -> Told
-        ensures { result ≡ stopped_found self c }
+    pub fn stopped(&self, c: u8) -> Result<u32, Refusal>
+        ensures { result ≡ (stopped_found self.now c).finding }
     {
-        let table = self.table;
-        let lock = self.lock;
-        if is_stopped(&lock.occupant, lock.holder, &table.budget, &self.kept, c) {
-            self.about_one(c, table.sizes.cores, 1)
-        } else {
-            self.about_one(c, table.sizes.cores, 0)
-        }
+        let stopped = is_stopped(
+            &self.lock.occupant,
+            self.lock.holder,
+            self.table.lent(),
+            &self.kept,
+            c,
+        );
+        self.about_one(c, self.table.sizes.cores, u32::from(stopped))
     }
 
     // The number of gang g's last release.
-    pub fn release_number(self, g: u8) -> Told
-        ensures { result ≡ number_found self g }
+    pub fn release_number(&self, g: u8) -> Result<u32, Refusal>
+        ensures { result ≡ (number_found self.now g).finding }
     {
-        let ledger = self.ledger;
-        self.about_one(g, self.table.sizes.gangs, value_at(&ledger.number, g))
+        self.about_gang(g, &self.ledger.number)
     }
 
     // How many of gang g's releases were served.
-    pub fn served(self, g: u8) -> Told
-        ensures { result ≡ served_found self g }
+    pub fn served(&self, g: u8) -> Result<u32, Refusal>
+        ensures { result ≡ (served_found self.now g).finding }
     {
-        let ledger = self.ledger;
-        self.about_one(g, self.table.sizes.gangs, value_at(&ledger.served, g))
+        self.about_gang(g, &self.ledger.served)
     }
 
     // How many of gang g's releases were skipped.
-    pub fn skipped(self, g: u8) -> Told
-        ensures { result ≡ skipped_found self g }
+    pub fn skipped(&self, g: u8) -> Result<u32, Refusal>
+        ensures { result ≡ (skipped_found self.now g).finding }
     {
-        let ledger = self.ledger;
-        self.about_one(g, self.table.sizes.gangs, value_at(&ledger.skipped, g))
+        self.about_gang(g, &self.ledger.skipped)
     }
 
     // The number of gang g's current job, 0 before the first.
-    pub fn job_number(self, g: u8) -> Told
-        ensures { result ≡ job_found self g }
+    pub fn job_number(&self, g: u8) -> Result<u32, Refusal>
+        ensures { result ≡ (job_found self.now g).finding }
     {
-        let ledger = self.ledger;
-        self.about_one(g, self.table.sizes.gangs, value_at(&ledger.job, g))
+        self.about_gang(g, &self.ledger.job)
     }
 
     // The lowest owing core, or 255.
-    pub fn lowest_owing(self) -> Told
-        ensures { result ≡ lowest_found self }
+    pub fn lowest_owing(&self) -> Result<u32, Refusal>
+        ensures { result ≡ (lowest_found self.now).finding }
     {
         self.about_all(coreset::first(self.lock.owing) as u32)
     }
 
     // How many cores owe.
-    pub fn owing_count(self) -> Told
-        ensures { result ≡ owing_found self }
+    pub fn owing_count(&self) -> Result<u32, Refusal>
+        ensures { result ≡ (owing_found self.now).finding }
     {
         self.about_all(coreset::size(self.lock.owing) as u32)
     }

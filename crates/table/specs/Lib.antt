@@ -2,6 +2,7 @@ pub mod Numbers
 pub mod Order
 pub mod Occurs
 pub mod Rules
+pub mod Seen
 pub mod TableOk
 pub mod First
 pub mod laws

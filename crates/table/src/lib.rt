@@ -3,12 +3,10 @@
 
 ghost use Rattle.std.specs.Prelude.{◌≡◌};
 ghost use Rattle.table.specs.Rules.{empty_table};
+ghost use Rattle.table.specs.Seen.{table_seen};
 
 mod order;
 mod rules;
-
-pub use order::{ahead, first_ready};
-pub use rules::{manned, priority_taken, table_ok};
 
 // How many cores, gangs and threads there is room for, and how large a priority and a budget may be.
 pub const MAX_CORES: u8 = 32;
@@ -21,7 +19,7 @@ pub const TOP_PRIORITY: u8 = 99;
 
 pub const MAX_BUDGET: u32 = 1000000;
 
-// A thread's states.
+// A thread's states. Numbers, not an enum: the C system has a byte for each, and a byte that is none of them is answered with 14.
 pub const FINISHED: u8 = 0;
 
 pub const READY: u8 = 1;
@@ -48,6 +46,16 @@ pub struct Table {
     pub core: [u8; 128],
 }
 
+// A table that is lent, wherever its parts lie: the sizes, and each list where it stands.
+#[derive(Clone, Copy)]
+pub struct TableRef<'a> {
+    pub sizes: Sizes,
+    pub priority: &'a [u8; 32],
+    pub budget: &'a [u32; 32],
+    pub gang: &'a [u8; 128],
+    pub core: &'a [u8; 128],
+}
+
 impl Table {
     // The empty table: no cores, gangs or threads.
     pub fn empty() -> Table
@@ -63,6 +71,19 @@ impl Table {
             budget: [0; 32],
             gang: [0; 128],
             core: [0; 128],
+        }
+    }
+
+    // The table, lent.
+    pub fn lent(&self) -> TableRef<'_>
+        ensures { table_seen result ≡ self.now }
+    {
+        TableRef {
+            sizes: self.sizes,
+            priority: &self.priority,
+            budget: &self.budget,
+            gang: &self.gang,
+            core: &self.core,
         }
     }
 }

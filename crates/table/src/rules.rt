@@ -1,145 +1,146 @@
 // The table rules, each tested in one pass.
 ghost use Rattle.std.specs.Prelude.{◌≡◌};
 ghost use Rattle.table.specs.Occurs.{Marked};
-ghost use Rattle.table.specs.Rules.{within, sizes_ok, gang_ok, gangs_ok, thread_ok, threads_ok, taken, distinct, manned, table_of, table_ok};
+ghost use Rattle.table.specs.Rules.{within, sizes_ok, gang_place, gangs_ok, thread_place, threads_ok, taken, distinct, manned, table_ok};
+ghost use Rattle.table.specs.Seen.{table_seen};
 
-use crate::{MAX_BUDGET, MAX_CORES, MAX_GANGS, MAX_THREADS, Sizes, TOP_PRIORITY};
-use lists::at;
+use crate::{MAX_BUDGET, MAX_CORES, MAX_GANGS, MAX_THREADS, Sizes, TOP_PRIORITY, TableRef};
+use lists::{at, every_place};
 
-// Whether some gang below `gangs` has priority p.
-pub fn priority_taken(priority: &[u8; 32], gangs: u8, p: u8) -> bool
-    ensures { result ≡ taken priority.now gangs p }
-{
-    for g in 0..gangs {
-        if at(priority, g) == p {
-            return true;
+impl Sizes {
+    // With no core there is nothing; else there are cores and gangs, and no more of anything than there is room for.
+    #[tactic(auto, unfolding(crate::specs::Rules::sizes_ok))]
+    fn ok(self) -> bool
+        ensures { result ≡ sizes_ok self }
+    {
+        if self.cores == 0 {
+            return self.gangs == 0 && self.threads == 0;
         }
+        if self.cores > MAX_CORES {
+            return false;
+        }
+        within(1, self.gangs, MAX_GANGS) && self.threads <= MAX_THREADS
     }
-    false
 }
 
+impl<'a> TableRef<'a> {
+    // Whether the table is empty or obeys the table rules, with every unused place zero.
+    #[tactic(auto, unfolding(crate::specs::Rules::table_ok))]
+    pub fn ok(self) -> bool
+        ensures { result ≡ table_ok (table_seen self.entry) }
+    {
+        self.sizes.ok() && self.gangs_ok() && self.threads_ok() && self.distinct() && self.manned()
+    }
+
+    // Whether some gang has priority p.
+    #[tactic(auto, using(crate::proofs::Turns::taken_so_far))]
+    pub fn priority_taken(self, p: u8) -> bool
+        ensures { result ≡ taken self.entry.priority.now self.entry.sizes.gangs p }
+    {
+        let priority = self.priority;
+        for g in 0..self.sizes.gangs {
+            if at(priority, g) == p {
+                return true;
+            }
+        }
+        false
+    }
+
+    // Every gang has a thread.
+    #[tactic(auto, unfolding(crate::specs::Rules::manned))]
+    pub fn manned(self) -> bool
+        ensures { result ≡ manned self.entry.gang.now self.entry.sizes.gangs self.entry.sizes.threads }
+    {
+        let seen = self.gangs_of();
+        every_place(self.sizes.gangs, |g| at(&seen, g) == 1)
+    }
+
+    // Every gang's place is right, used or not.
+    fn gangs_ok(self) -> bool
+        ensures { result ≡ gangs_ok self.entry.priority.now self.entry.budget.now self.entry.sizes.gangs }
+    {
+        every_place(MAX_GANGS, |g| self.gang_ok(g))
+    }
+
+    // A gang's priority and budget are in range, and an unused place is zero.
+    #[tactic(auto, unfolding(crate::specs::Rules::gang_ok))]
+    fn gang_ok(self, g: u8) -> bool
+        ensures { result ≡ gang_place self.entry.priority.now self.entry.budget.now self.entry.sizes.gangs g }
+    {
+        let TableRef {
+            sizes,
+            priority,
+            budget,
+            ..
+        } = self;
+        let priority = at(priority, g);
+        let budget = at(budget, g);
+        if g < sizes.gangs {
+            return within(1, priority, TOP_PRIORITY) && budget <= MAX_BUDGET;
+        }
+        priority == 0 && budget == 0
+    }
+
+    // Every thread's place is right, used or not.
+    fn threads_ok(self) -> bool
+        ensures { result ≡ threads_ok self.entry.gang.now self.entry.core.now self.entry.sizes }
+    {
+        every_place(MAX_THREADS, |t| self.thread_ok(t))
+    }
+
+    // A thread's gang and core are in the table, and an unused place is zero.
+    #[tactic(auto, unfolding(crate::specs::Rules::thread_ok))]
+    fn thread_ok(self, t: u8) -> bool
+        ensures { result ≡ thread_place self.entry.gang.now self.entry.core.now self.entry.sizes t }
+    {
+        let TableRef {
+            sizes,
+            gang,
+            core,
+            ..
+        } = self;
+        let gang = at(gang, t);
+        let core = at(core, t);
+        if t < sizes.threads {
+            return gang < sizes.gangs && core < sizes.cores;
+        }
+        gang == 0 && core == 0
+    }
+
+    // No two gangs have one priority: each is marked as it is met.
+    #[tactic(auto, using(ranges::specs::laws::Pass::passed_all), unfolding(crate::specs::Rules::distinct))]
+    fn distinct(self) -> bool
+        ensures { result ≡ distinct self.entry.priority.now self.entry.sizes.gangs }
+    {
+        let priority = self.priority;
+        let mut seen = [0u8; 256];
+        let mut ok = true;
+        for g in 0..self.sizes.gangs {
+            let p = at(priority, g) as usize;
+            ok = ok & (seen[p] != 1);
+            seen[p] = 1;
+        }
+        ok
+    }
+
+    // A mark for each gang number: 1 where one of the threads is that gang's.
+    #[tactic(auto, using(ranges::specs::laws::Pass::upto_all, crate::specs::laws::Occurs::marked_more))]
+    fn gangs_of(self) -> [u8; 256]
+        ensures { Marked self.entry.gang.now self.entry.sizes.threads result }
+    {
+        let gang = self.gang;
+        let mut seen = [0u8; 256];
+        for t in 0..self.sizes.threads {
+            let g = at(gang, t) as usize;
+            seen[g] = 1;
+        }
+        seen
+    }
+}
+
+#[tactic(auto, unfolding(crate::specs::Rules::within))]
 fn within(low: u8, x: u8, high: u8) -> bool
     ensures { result ≡ within low x high }
 {
     low <= x && x <= high
-}
-
-// With no core there is nothing; else there are cores and gangs, and no more of anything than there is room for.
-fn sizes_ok(sizes: Sizes) -> bool
-    ensures { result ≡ sizes_ok sizes }
-{
-    if sizes.cores == 0 {
-        return sizes.gangs == 0 && sizes.threads == 0;
-    }
-    if sizes.cores > MAX_CORES {
-        return false;
-    }
-    within(1, sizes.gangs, MAX_GANGS) && sizes.threads <= MAX_THREADS
-}
-
-// A gang's priority and budget are in range, and an unused place is zero.
-fn gang_ok(g: u8, gangs: u8, priority: u8, budget: u32) -> bool
-    ensures { result ≡ gang_ok g gangs priority budget }
-{
-    if g < gangs {
-        return within(1, priority, TOP_PRIORITY) && budget <= MAX_BUDGET;
-    }
-    priority == 0 && budget == 0
-}
-
-// Every place is tested, with no way out before the last: so the tests run side by side.
-fn gangs_ok<'a>(priority: &'a [u8; 32], budget: &'a [u32; 32], gangs: u8) -> bool
-    ensures { result ≡ gangs_ok priority.now budget.now gangs }
-{
-    let mut ok = true;
-    for g in 0..MAX_GANGS {
-        let i = g as usize;
-        ok = ok & gang_ok(g, gangs, priority[i], budget[i]);
-    }
-    ok
-}
-
-// A thread's gang and core are in the table, and an unused place is zero.
-fn thread_ok(t: u8, threads: u8, gang: u8, gangs: u8, core: u8, cores: u8) -> bool
-    ensures { result ≡ thread_ok t threads gang gangs core cores }
-{
-    if t < threads {
-        return gang < gangs && core < cores;
-    }
-    gang == 0 && core == 0
-}
-
-fn threads_ok<'a>(gang: &'a [u8; 128], core: &'a [u8; 128], sizes: Sizes) -> bool
-    ensures { result ≡ threads_ok gang.now core.now sizes }
-{
-    let mut ok = true;
-    for t in 0..MAX_THREADS {
-        let i = t as usize;
-        ok = ok & thread_ok(t, sizes.threads, gang[i], sizes.gangs, core[i], sizes.cores);
-    }
-    ok
-}
-
-// No two gangs have one priority: each is marked as it is met.
-fn distinct(priority: &[u8; 32], gangs: u8) -> bool
-    ensures { result ≡ distinct priority.now gangs }
-{
-    let mut seen = [0u8; 256];
-    let mut ok = true;
-    for g in 0..gangs {
-        let p = at(priority, g) as usize;
-        ok = ok & (seen[p] != 1);
-        seen[p] = 1;
-    }
-    ok
-}
-
-// A mark for each gang number: 1 where one of the first `threads` threads is that gang's.
-fn gangs_of(gang: &[u8; 128], threads: u8) -> [u8; 256]
-    ensures { Marked gang.now threads result }
-{
-    let mut seen = [0u8; 256];
-    for t in 0..threads {
-        let g = at(gang, t) as usize;
-        seen[g] = 1;
-    }
-    seen
-}
-
-// Every gang has a thread.
-pub fn manned(gang: &[u8; 128], gangs: u8, threads: u8) -> bool
-    ensures { result ≡ manned gang.now gangs threads }
-{
-    let seen = gangs_of(gang, threads);
-    let mut ok = true;
-    for g in 0..gangs {
-        let i = g as usize;
-        ok = ok & (seen[i] == 1);
-    }
-    ok
-}
-
-// Whether the table of these parts is empty or obeys the table rules, with every unused place zero.
-pub fn table_ok<'a>(
-    sizes: Sizes,
-    priority: &'a [u8; 32],
-    budget: &'a [u32; 32],
-    gang: &'a [u8; 128],
-    core: &'a [u8; 128],
-) -> bool
-    ensures { result ≡ table_ok (table_of sizes priority.now budget.now gang.now core.now) }
-{
-    if !sizes_ok(sizes) {
-        return false;
-    }
-    if !gangs_ok(priority, budget, sizes.gangs) {
-        return false;
-    }
-    if !threads_ok(gang, core, sizes) {
-        return false;
-    }
-    if !distinct(priority, sizes.gangs) {
-        return false;
-    }
-    manned(gang, sizes.gangs, sizes.threads)
 }

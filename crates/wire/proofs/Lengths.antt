@@ -1,37 +1,29 @@
--- A loop over the list of lengths that looks for the first pair that passes a test.
-use Prim.Native.Nat.{ℕ, ◌+◌, ◌≤◌, ◌<◌}
-use mathlib.Core.Path.{◌≡◌, refl, sym, ap, ◌∙◌}
-use mathlib.Core.Bool.{Bool, true, false}
-use mathlib.Core.List.{List, []}
-use native.Mathlib.Numerals.{add-one}
-use native.Mathlib.Omega.{arith}
-use lib.ListN.{length, get_or, drop, drop_of_length-le}
-use lib.Seq.{drop-cons}
+-- The first pair of the list of lengths that passes a test, as `any` and `find` look for it.
+use Rattle.std.proofs.Common.{ℕ, ◌≡◌, refl, Bool, true, false, cond, ◌||◌, List, [], ◌∷◌, Option, Some, None}
+use Rattle.std.specs.List.{list_any, find}
 use Rattle.wire.specs.declared.kinds.Pair.{Pair}
 use Rattle.wire.specs.Kinds.{first_pair}
 
--- the pair at a place; past the list's end a pair that is no kind's
-abbrev pub pair_at : List Pair → ℕ → Pair
-pair_at ps i = get_or ps i record { kind = 0; len = 0 }
+-- what is said of a pair that was found, or of none
+abbrev pub said_of : (Pair → ℕ) → ℕ → Option Pair → ℕ
+said_of says other (Some p) = says p
+said_of says other None = other
 
-module _ {A : Type 0} (passes : Pair → Bool) (says : Pair → A) (other : A) (ps : List Pair) where
-  -- what the loop keeps: the pairs from i on decide, as the whole list does
-  pub record Decides (i : ℕ) : Type 0 where
-    pub inside : i ≤ length ps
-    pub same : first_pair passes says other (drop i ps) ≡ first_pair passes says other ps
+module _ (passes : Pair → Bool) where
+  pub any_passes : (ps : List Pair) → list_any passes ps ≡ first_pair passes (λ p. true) false ps
+  any_passes [] = refl
+  any_passes (p ∷ ps) = by (passes p) (any_passes ps)
+    where
+      by : (b : Bool) → list_any passes ps ≡ first_pair passes (λ p. true) false ps
+          → (b || list_any passes ps) ≡ cond b true (first_pair passes (λ p. true) false ps)
+      by true e = refl
+      by false e = e
 
-  pub starts : Decides 0
-  starts = record { inside = omega arith; same = refl }
-
-  module _ (i : ℕ) (d : Decides i) where
-    -- the pair at i passes,
-    pub finds : i < length ps → passes (pair_at ps i) ≡ true → says (pair_at ps i) ≡ first_pair passes says other ps
-    finds h e = sym (rw (drop-cons ps i (pair_at [] 0) h, e)) ∙ d.same
-
-    -- or it doesn't,
-    pub passes_by : i < length ps → passes (pair_at ps i) ≡ false → Decides (i + 1)
-    passes_by h e = record { inside = omega arith; same = sym (rw (add-one, drop-cons ps i (pair_at [] 0) h, e)) ∙ d.same }
-
-    -- or there is none
-    pub finds_none : length ps ≤ i → other ≡ first_pair passes says other ps
-    finds_none h = sym (ap (first_pair passes says other) (drop_of_length-le ps h)) ∙ d.same
+  pub find_says : (says : Pair → ℕ) (other : ℕ) (ps : List Pair) → said_of says other (find passes ps) ≡ first_pair passes says other ps
+  find_says says other [] = refl
+  find_says says other (p ∷ ps) = by (passes p) (find_says says other ps)
+    where
+      by : (b : Bool) → said_of says other (find passes ps) ≡ first_pair passes says other ps
+          → said_of says other (cond b (Some p) (find passes ps)) ≡ cond b (says p) (first_pair passes says other ps)
+      by true e = refl
+      by false e = e

@@ -3,8 +3,8 @@ use Rattle.std.specs.Prelude.{ℕ, List, [], ◌∷◌, ◌++◌, cond, length, 
 use Rattle.wire.specs.declared.answer.Answer.{Answer}
 use Rattle.wire.specs.declared.answer.Answer.TheVariants as answer
 use Rattle.wire.specs.declared.answer.AnswerRecord.{AnswerRecord}
-use Rattle.wire.specs.declared.answer.Written.{Written}
-use Rattle.wire.specs.declared.answer.Written.TheVariants.{Bytes, Refused}
+use Rattle.wire.specs.Written.{Written}
+use Rattle.wire.specs.Written.{Bytes, Refused}
 use Rattle.wire.specs.declared.refusal.Refusal.TheVariants.{NoRoom}
 use Rattle.wire.specs.Kinds.{kind_answer, lengths, length_in}
 use Rattle.wire.specs.Number.{two, four}

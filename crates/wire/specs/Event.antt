@@ -1,13 +1,13 @@
 -- Document 01, "Records": the events as values.
-use Rattle.std.specs.Prelude.{ℕ, List, cond, get_or, eqb}
+use Rattle.std.specs.Prelude.{ℕ, List, cond, get_or, eqb, ◌≡◌, refl}
 use Rattle.wire.specs.declared.event.Event.{Event}
 use Rattle.wire.specs.declared.event.Event.TheVariants.{Release, Finish, Wait, Wake, Serve, Traffic, Tick}
-use Rattle.wire.specs.declared.event.NextEvent.{NextEvent}
-use Rattle.wire.specs.declared.event.NextEvent.TheVariants as found
+use Rattle.wire.specs.NextEvent.{NextEvent}
+use Rattle.wire.specs.NextEvent as found
 use Rattle.wire.specs.declared.kinds.Stream.TheVariants.{Events}
 use Rattle.wire.specs.Kinds.{kind_release, kind_finish, kind_wait, kind_wake, kind_serve, kind_traffic, kind_tick}
 use Rattle.wire.specs.Number.{le32}
-use Rattle.wire.specs.Record.{read_first}
+use Rattle.wire.specs.Record.{read_first, read_as}
 
 -- the event of a kind and its payload
 unfoldable pub event_of : ℕ → List ℕ → Event
@@ -35,3 +35,8 @@ event_found kind payload next = found.Event (event_of kind payload) next
 
 unfoldable pub next_event : List ℕ → NextEvent
 next_event s = read_first event_found found.Refused Events s
+
+-- it is the reader of its stream by what a kind and a payload mean
+pub event_reads : (s : List ℕ) → read_as event_of Events s ≡ next_event s
+unfolding next_event
+event_reads s = refl

@@ -1,6 +1,10 @@
 pub mod Kinds
 pub mod Number
 pub mod Refusal
+pub mod Seen
+pub mod NextEvent
+pub mod NextTableRecord
+pub mod Written
 pub mod Record
 pub mod Question
 pub mod Event

@@ -1,15 +1,11 @@
 -- The record question's cases as one view, for every stream and every place, and what follows from it.
-use Rattle.std.specs.Prelude.{ℕ, ◌+◌, ◌≤◌, ◌<◌, ◌≡◌, Bool, ◌&&◌, cond, List, [], ◌∷◌, eqb, leb, length}
-use Rattle.std.proofs.Math.Path.{refl}
-use Rattle.std.proofs.Math.Bool.{true, false}
+use Rattle.std.specs.Prelude.{ℕ, ◌+◌, ◌≤◌, ◌<◌, ◌≡◌, refl, Bool, true, false, ◌&&◌, cond, List, [], ◌∷◌, eqb, leb, ltb, length, Ok}
+use Rattle.std.proofs.Common.{arith, lt-ltb, le-ltb, ltb-true, ltb-false, leb-true, eqb-true}
 use Rattle.std.proofs.lemmas.Bool.{false≢true}
-use Rattle.std.proofs.Common.{arith}
-use Rattle.std.proofs.Math.Dec.{ltb}
-use borrow.Author.Tests.{lt-ltb, le-ltb, ltb-true, ltb-false, leb-true, eqb-true}
 use Rattle.wire.specs.declared.kinds.Pair.{Pair}
 use Rattle.wire.specs.declared.kinds.Stream.{Stream}
-use Rattle.wire.specs.declared.record.Seen.{Seen}
-use Rattle.wire.specs.declared.record.Seen.TheVariants.{Record, Refused}
+use Rattle.wire.specs.Seen.{Seen}
+use Rattle.wire.specs.Seen.{Record, Refused}
 use Rattle.wire.specs.declared.refusal.Refusal.{Refusal}
 use Rattle.wire.specs.declared.refusal.Refusal.TheVariants.{CutShort, WrongKind, WrongLength}
 use Rattle.wire.specs.Kinds.{lengths, fits_in, in_stream}
@@ -97,7 +93,7 @@ pub record OneToThree (refusal : Refusal) : Type 0 where
 
 -- what the question finds at a place: a whole record, or one of those refusals
 abbrev pub SeenAt : List ℕ → ℕ → Seen → Type 0
-SeenAt s at (Record kind next) = WholeRecord s at next
+SeenAt s at (Ok r) = WholeRecord s at r.next
 SeenAt s at (Refused refusal) = OneToThree refusal
 
 seen_by : {stream : Stream} {s : List ℕ} {at : ℕ} {r : Seen} → Question stream s at r → SeenAt s at r

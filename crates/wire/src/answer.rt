@@ -2,11 +2,11 @@
 ghost use Rattle.std.specs.Prelude.{◌≡◌};
 ghost use Rattle.wire.specs.Answer.{answer_refusal, answer_value, answer_number, record_of, answer_bytes, written_in, put_over};
 
-use crate::kinds::ANSWER;
+use crate::kinds::{ANSWER, length_of};
 use crate::refusal::Refusal;
 
-// What an event comes to.
-#[derive(Clone, Copy)]
+// What an event comes to. Refused is one of its cases and no Err: it is the whole content of an ANSWER record too.
+#[derive(Clone, Copy, PartialEq, Eq, Debug)]
 pub enum Answer {
     Refused(Refusal),
     // RELEASE took this number, and was served.
@@ -23,20 +23,13 @@ pub enum Answer {
 
 // The fields of an ANSWER record.
 #[repr(C)]
-#[derive(Clone, Copy)]
+#[derive(Clone, Copy, PartialEq, Eq, Debug)]
 pub struct AnswerRecord {
     pub refusal: u8,
     pub value: u8,
     pub number: u32,
     pub owing: u32,
     pub locked: u32,
-}
-
-// What a writer says: how many bytes it wrote, or why it wrote none.
-#[derive(Clone, Copy)]
-pub enum Written {
-    Bytes(usize),
-    Refused(Refusal),
 }
 
 // The bytes of an ANSWER record.
@@ -50,15 +43,8 @@ pub fn answer_refusal(answer: Answer) -> u8
     ensures { result ≡ answer_refusal answer }
 {
     match answer {
-        Answer::Refused(refusal) => crate::refusal::number_of(refusal),
-        Answer::Served(_) => 0,
-        Answer::Skipped(_) => 0,
-        Answer::Occupant(_) => 0,
-        Answer::Counted {
-            stopped: _,
-            count: _,
-        } => 0,
-        Answer::Done => 0,
+        Answer::Refused(refusal) => u8::from(refusal),
+        _ => 0,
     }
 }
 
@@ -67,12 +53,10 @@ pub fn answer_value(answer: Answer) -> u8
     ensures { result ≡ answer_value answer }
 {
     match answer {
-        Answer::Refused(_) => 0,
         Answer::Served(_) => YES,
-        Answer::Skipped(_) => 0,
         Answer::Occupant(thread) => thread,
-        Answer::Counted { stopped, count: _ } => { if stopped { YES } else { 0 } }
-        Answer::Done => 0,
+        Answer::Counted { stopped: true, .. } => YES,
+        _ => 0,
     }
 }
 
@@ -81,12 +65,9 @@ pub fn answer_number(answer: Answer) -> u32
     ensures { result ≡ answer_number answer }
 {
     match answer {
-        Answer::Refused(_) => 0,
-        Answer::Served(number) => number,
-        Answer::Skipped(number) => number,
-        Answer::Occupant(_) => 0,
-        Answer::Counted { stopped: _, count } => count,
-        Answer::Done => 0,
+        Answer::Served(number) | Answer::Skipped(number) => number,
+        Answer::Counted { count, .. } => count,
+        _ => 0,
     }
 }
 
@@ -104,48 +85,30 @@ pub fn record_of(answer: Answer, owing: u32, locked: u32) -> AnswerRecord
 }
 
 // The bytes of an ANSWER record.
-pub fn answer_bytes(a: AnswerRecord) -> [u8; 18]
+#[tactic(auto, unfolding(crate::specs::Answer::answer_bytes, crate::specs::Kinds::lengths))]
+pub fn answer_bytes(a: AnswerRecord) -> [u8; ANSWER_SIZE]
     ensures { result ≡ answer_bytes a }
 {
-    let len = crate::kinds::length_of(ANSWER);
-    let n = a.number;
-    let o = a.owing;
-    let l = a.locked;
+    let len = length_of(ANSWER).to_le_bytes();
+    let kind = ANSWER.to_le_bytes();
+    let n = a.number.to_le_bytes();
+    let o = a.owing.to_le_bytes();
+    let l = a.locked.to_le_bytes();
     [
-        (len % 256) as u8,
-        (len / 256 % 256) as u8,
-        (ANSWER % 256) as u8,
-        (ANSWER / 256 % 256) as u8,
-        a.refusal,
-        a.value,
-        (n % 256) as u8,
-        (n / 256 % 256) as u8,
-        (n / 65536 % 256) as u8,
-        (n / 16777216 % 256) as u8,
-        (o % 256) as u8,
-        (o / 256 % 256) as u8,
-        (o / 65536 % 256) as u8,
-        (o / 16777216 % 256) as u8,
-        (l % 256) as u8,
-        (l / 256 % 256) as u8,
-        (l / 65536 % 256) as u8,
-        (l / 16777216 % 256) as u8,
+        len[0], len[1], kind[0], kind[1], a.refusal, a.value, n[0], n[1], n[2], n[3], o[0], o[1],
+        o[2], o[3], l[0], l[1], l[2], l[3],
     ]
 }
 
-// Writes one ANSWER record into the start of out, or nothing where it has no room.
-pub fn write_answer(out: &mut [u8], a: AnswerRecord) -> Written
+// Writes one ANSWER record into the start of out, and says how many bytes it wrote; or nothing where it has no room.
+#[tactic(auto, unfolding(crate::specs::Answer::written_in, crate::specs::Answer::put_over, crate::specs::Answer::answer_bytes))]
+pub fn write_answer(out: &mut [u8], a: AnswerRecord) -> Result<usize, Refusal>
     ensures value { result ≡ written_in out.old }
     ensures out_after { out.new ≡ put_over (answer_bytes a) out.old }
 {
     if out.len() < ANSWER_SIZE {
-        return Written::Refused(Refusal::NoRoom);
+        return Err(Refusal::NoRoom);
     }
-    let bytes = answer_bytes(a);
-    let mut i: usize = 0;
-    while i < ANSWER_SIZE {
-        out[i] = bytes[i];
-        i += 1;
-    }
-    Written::Bytes(ANSWER_SIZE)
+    out[..ANSWER_SIZE].copy_from_slice(&answer_bytes(a));
+    Ok(ANSWER_SIZE)
 }

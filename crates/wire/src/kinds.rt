@@ -2,6 +2,7 @@
 ghost use Rattle.std.specs.Prelude.{◌≡◌};
 ghost use Rattle.wire.specs.Kinds.{lengths, fits_in, length_in, in_stream};
 
+// Numbers and no enum: in_stream, length_fits and length_of answer for every u16.
 pub const CORES: u16 = 1;
 
 pub const GANG: u16 = 2;
@@ -25,7 +26,7 @@ pub const TICK: u16 = 22;
 pub const ANSWER: u16 = 64;
 
 // A kind, and the length that its records have.
-#[derive(Clone, Copy)]
+#[derive(Clone, Copy, PartialEq, Eq, Debug)]
 pub struct Pair {
     pub kind: u16,
     pub len: u16,
@@ -71,7 +72,7 @@ const LENGTHS: [Pair; PAIRS] = [
 ];
 
 // What is being read.
-#[derive(Clone, Copy)]
+#[derive(Clone, Copy, PartialEq, Eq, Debug)]
 pub enum Stream {
     Table,
     Events,
@@ -79,6 +80,7 @@ pub enum Stream {
 }
 
 // Whether a stream has records of this kind.
+#[tactic(auto, unfolding(crate::specs::Kinds::in_stream))]
 pub fn in_stream(stream: Stream, kind: u16) -> bool
     ensures { result ≡ in_stream stream kind }
 {
@@ -90,35 +92,20 @@ pub fn in_stream(stream: Stream, kind: u16) -> bool
 }
 
 // Whether len is a length of this kind.
+#[tactic(auto, unfolding(crate::specs::Kinds::lengths))]
 pub fn length_fits(kind: u16, len: u16) -> bool
     ensures { result ≡ fits_in kind len lengths }
 {
-    let lengths = LENGTHS;
-    let mut i: usize = 0;
-    while i < PAIRS {
-        let p = lengths[i];
-        if p.kind == kind {
-            if p.len == len {
-                return true;
-            }
-        }
-        i += 1;
-    }
-    false
+    LENGTHS.iter().any(|p| p.kind == kind && p.len == len)
 }
 
 // The length that a writer gives this kind: the first one listed, or 0 where there is none.
+#[tactic(auto, unfolding(crate::specs::Kinds::lengths))]
 pub fn length_of(kind: u16) -> u16
     ensures { result ≡ length_in kind lengths }
 {
-    let lengths = LENGTHS;
-    let mut i: usize = 0;
-    while i < PAIRS {
-        let p = lengths[i];
-        if p.kind == kind {
-            return p.len;
-        }
-        i += 1;
+    match LENGTHS.iter().find(|p| p.kind == kind) {
+        Some(p) => p.len,
+        None => 0,
     }
-    0
 }

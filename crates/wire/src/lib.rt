@@ -5,6 +5,7 @@ pub mod answer;
 pub mod event;
 pub mod kinds;
 pub mod number;
+pub mod of_record;
 pub mod record;
 pub mod refusal;
 pub mod table_record;

@@ -9,18 +9,12 @@ pub fn byte_at(s: &[u8], at: usize) -> u8
     if at < s.len() { s[at] } else { 0 }
 }
 
-fn wide(x: u8) -> u16
-    ensures { result ≡ x }
-{
-    x as u16
-}
-
 // The u16 at a place.
 pub fn u16_at(s: &[u8], at: usize) -> u16
     ensures { result ≡ le16 s.now at }
 {
     if at < s.len() {
-        wide(byte_at(s, at)) + 256 * wide(byte_at(s, at + 1))
+        u16::from_le_bytes([byte_at(s, at), byte_at(s, at + 1)])
     } else {
         0
     }
@@ -31,7 +25,12 @@ pub fn u32_at(s: &[u8], at: usize) -> u32
     ensures { result ≡ le32 s.now at }
 {
     if at < s.len() {
-        u16_at(s, at) as u32 + 65536 * (u16_at(s, at + 2) as u32)
+        u32::from_le_bytes([
+            byte_at(s, at),
+            byte_at(s, at + 1),
+            byte_at(s, at + 2),
+            byte_at(s, at + 3),
+        ])
     } else {
         0
     }

@@ -3,7 +3,9 @@ ghost use Rattle.std.specs.Prelude.{◌≡◌};
 ghost use Rattle.wire.specs.Record.{record_at, record_told, payload_of, payload_at};
 ghost use Rattle.wire.specs.Question.{SeenAt};
 
-use crate::kinds::Stream;
+use crate::kinds::{Stream, in_stream, length_fits};
+use crate::number::u16_at;
+use crate::of_record::{Next, OfRecord};
 use crate::refusal::Refusal;
 
 // The bytes of a length and a kind.
@@ -12,47 +14,42 @@ pub const HEADER: usize = 4;
 // The bytes of a length, which the length does not count.
 const UNCOUNTED: usize = 2;
 
-// What stands at a place: a whole record's kind and the place of the next record, or why not.
-#[derive(Clone, Copy)]
-pub enum Seen {
-    Record { kind: u16, next: usize },
-    Refused(Refusal),
+// A whole record's kind, and the place of the next record.
+#[derive(Clone, Copy, PartialEq, Eq, Debug)]
+pub struct Record {
+    pub kind: u16,
+    pub next: usize,
 }
 
-// The record question.
-pub fn record_at(stream: Stream, s: &[u8], place: usize) -> Seen
+// The record question: what stands at a place, or why not.
+#[tactic(auto, unfolding(crate::specs::Record::record_at))]
+pub fn record_at(stream: Stream, s: &[u8], place: usize) -> Result<Record, Refusal>
     ensures { result ≡ record_at stream s.now place }
 {
-    if s.len() < place {
-        return Seen::Refused(Refusal::CutShort);
-    }
-    let left = s.len() - place;
+    let left = s.len().saturating_sub(place);
     if left < HEADER {
-        return Seen::Refused(Refusal::CutShort);
+        return Err(Refusal::CutShort);
     }
-    let len = crate::number::u16_at(s, place);
-    let kind = crate::number::u16_at(s, place + 2);
-    if crate::kinds::in_stream(stream, kind) {
-        if crate::kinds::length_fits(kind, len) {
-            let whole = len as usize + UNCOUNTED;
-            if left < whole {
-                Seen::Refused(Refusal::CutShort)
-            } else {
-                Seen::Record {
-                    kind,
-                    next: place + whole,
-                }
-            }
-        } else {
-            Seen::Refused(Refusal::WrongLength)
-        }
-    } else {
-        Seen::Refused(Refusal::WrongKind)
+    let len = u16_at(s, place);
+    let kind = u16_at(s, place + UNCOUNTED);
+    if !in_stream(stream, kind) {
+        return Err(Refusal::WrongKind);
     }
+    if !length_fits(kind, len) {
+        return Err(Refusal::WrongLength);
+    }
+    let whole = usize::from(len) + UNCOUNTED;
+    if left < whole {
+        return Err(Refusal::CutShort);
+    }
+    Ok(Record {
+        kind,
+        next: place + whole,
+    })
 }
 
 // What the question finds, in document 01's numbers: refusal 0 with the kind and the next place, or the refusal with both 0.
-#[derive(Clone, Copy)]
+#[derive(Clone, Copy, PartialEq, Eq, Debug)]
 pub struct RecordTold {
     pub refusal: u8,
     pub kind: u16,
@@ -60,17 +57,17 @@ pub struct RecordTold {
 }
 
 // The numbers of what the question finds.
-pub fn record_told(seen: Seen) -> RecordTold
+pub fn record_told(seen: Result<Record, Refusal>) -> RecordTold
     ensures { result ≡ record_told seen }
 {
     match seen {
-        Seen::Record { kind, next } => RecordTold {
+        Ok(Record { kind, next }) => RecordTold {
             refusal: 0,
             kind,
             next,
         },
-        Seen::Refused(refusal) => RecordTold {
-            refusal: crate::refusal::number_of(refusal),
+        Err(refusal) => RecordTold {
+            refusal: u8::from(refusal),
             kind: 0,
             next: 0,
         },
@@ -78,19 +75,31 @@ pub fn record_told(seen: Seen) -> RecordTold
 }
 
 // The payload of the record that the question found at a place, as the very part of s; empty where it is refused.
-pub(crate) fn payload_of(seen: Seen, s: &[u8], place: usize) -> &[u8]
+fn payload_of(seen: Result<Record, Refusal>, s: &[u8], place: usize) -> &[u8]
     requires { SeenAt s.now place seen }
     ensures { result.now ≡ payload_of seen s.now place }
 {
     match seen {
-        Seen::Record { kind: _, next } => &s[place + HEADER..next],
-        Seen::Refused(_) => &s[..0],
+        Ok(Record { next, .. }) => &s[place + HEADER..next],
+        Err(_) => &s[..0],
     }
 }
 
 // The payload of the record at a place, as the very part of s; empty where the record is refused.
+#[tactic(auto, using(crate::specs::Question::seen_at))]
 pub fn payload_at(stream: Stream, s: &[u8], place: usize) -> &[u8]
     ensures { result.now ≡ payload_at stream s.now place }
 {
     payload_of(record_at(stream, s, place), s, place)
+}
+
+// Reads the record at the start of s: an event, or a table's record.
+#[tactic(auto, using(crate::specs::Question::seen_at))]
+pub fn next<T: OfRecord>(s: &[u8]) -> Result<Next<T>, Refusal>
+    ensures { result ≡ T.next s.now }
+{
+    let seen = record_at(T::STREAM, s, 0);
+    let Record { kind, next } = seen?;
+    let found = T::of_record(kind, payload_of(seen, s, 0));
+    Ok(Next { found, next })
 }

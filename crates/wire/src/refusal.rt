@@ -3,7 +3,7 @@ ghost use Rattle.std.specs.Prelude.{◌≡◌};
 ghost use Rattle.wire.specs.Refusal.{number_of};
 
 // Why a record, a table, an event, a question or a batch is refused.
-#[derive(Clone, Copy)]
+#[derive(Clone, Copy, PartialEq, Eq, Debug)]
 pub enum Refusal {
     // Fewer bytes are left than the record takes.
     CutShort,
@@ -36,23 +36,25 @@ pub enum Refusal {
 }
 
 // The number that document 01 gives a refusal.
-pub fn number_of(refusal: Refusal) -> u8
-    ensures { result ≡ number_of refusal }
-{
-    match refusal {
-        Refusal::CutShort => 1,
-        Refusal::WrongKind => 2,
-        Refusal::WrongLength => 3,
-        Refusal::NotCoresFirst => 4,
-        Refusal::TooMany => 5,
-        Refusal::OutOfRange => 6,
-        Refusal::PriorityTaken => 7,
-        Refusal::Unfinished => 8,
-        Refusal::NotRunning => 9,
-        Refusal::NotWaiting => 10,
-        Refusal::CoreOccupied => 11,
-        Refusal::NumbersSpent => 12,
-        Refusal::NoRoom => 13,
-        Refusal::NotWellFormed => 14,
+impl From<Refusal> for u8 {
+    ghost from_gives = { λ refusal n. n ≡ number_of refusal };
+
+    fn from(refusal: Refusal) -> u8 {
+        match refusal {
+            Refusal::CutShort => 1,
+            Refusal::WrongKind => 2,
+            Refusal::WrongLength => 3,
+            Refusal::NotCoresFirst => 4,
+            Refusal::TooMany => 5,
+            Refusal::OutOfRange => 6,
+            Refusal::PriorityTaken => 7,
+            Refusal::Unfinished => 8,
+            Refusal::NotRunning => 9,
+            Refusal::NotWaiting => 10,
+            Refusal::CoreOccupied => 11,
+            Refusal::NumbersSpent => 12,
+            Refusal::NoRoom => 13,
+            Refusal::NotWellFormed => 14,
+        }
     }
 }

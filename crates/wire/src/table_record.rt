@@ -1,13 +1,13 @@
-// A table's records as values, and the reader of a single table record.
+// A table's records as values, and what a table record means.
 ghost use Rattle.std.specs.Prelude.{◌≡◌};
-ghost use Rattle.wire.specs.Table.{table_record_of, next_table_record};
+ghost use Rattle.wire.specs.declared.kinds.Stream.TheVariants as stream;
+ghost use Rattle.wire.specs.Table.{table_record_of, next_table_record, table_record_reads};
 
 use crate::kinds::{CORES, GANG, Stream};
 use crate::number::{byte_at, u32_at};
-use crate::record::{Seen, payload_of, record_at};
-use crate::refusal::Refusal;
+use crate::of_record::OfRecord;
 
-#[derive(Clone, Copy)]
+#[derive(Clone, Copy, PartialEq, Eq, Debug)]
 pub enum TableRecord {
     Cores(u8),
     Gang { priority: u8, budget: u32 },
@@ -16,49 +16,35 @@ pub enum TableRecord {
     Thread { gang: u8, core: u8 },
 }
 
-// The table record at the start of some bytes, and the place of the record after it.
-#[derive(Clone, Copy)]
-pub enum NextTableRecord {
-    Record { record: TableRecord, next: usize },
-    Refused(Refusal),
-}
-
 // The bytes of a short GANG's payload.
 const SHORT: usize = 1;
 
 // The table record of a kind and a payload. Any kind but CORES and GANG is read as THREAD: the record question has let no other by.
-fn table_record_of(kind: u16, payload: &[u8]) -> TableRecord
-    ensures { result ≡ table_record_of kind payload.now }
-{
-    let first = byte_at(payload, 0);
-    if kind == CORES {
-        return TableRecord::Cores(first);
-    }
-    if kind == GANG {
-        if payload.len() <= SHORT {
-            return TableRecord::ShortGang(first);
-        }
-        return TableRecord::Gang {
-            priority: first,
-            budget: u32_at(payload, 1),
-        };
-    }
-    TableRecord::Thread {
-        gang: first,
-        core: byte_at(payload, 1),
-    }
-}
+impl OfRecord for TableRecord {
+    ghost next = { next_table_record };
 
-// Reads the table record at the start of s.
-pub fn next_table_record(s: &[u8]) -> NextTableRecord
-    ensures { result ≡ next_table_record s.now }
-{
-    let seen = record_at(Stream::Table, s, 0);
-    match seen {
-        Seen::Record { kind, next } => NextTableRecord::Record {
-            record: table_record_of(kind, payload_of(seen, s, 0)),
-            next,
-        },
-        Seen::Refused(refusal) => NextTableRecord::Refused(refusal),
+    ghost STREAM = { stream.Table };
+
+    ghost of_record = { table_record_of };
+
+    const STREAM: Stream = Stream::Table;
+
+    #[tactic(auto, unfolding(crate::specs::Table::table_record_of))]
+    fn of_record(kind: u16, payload: &[u8]) -> TableRecord {
+        let first = byte_at(payload, 0);
+        match kind {
+            CORES => TableRecord::Cores(first),
+            GANG if payload.len() <= SHORT => TableRecord::ShortGang(first),
+            GANG => TableRecord::Gang {
+                priority: first,
+                budget: u32_at(payload, 1),
+            },
+            _ => TableRecord::Thread {
+                gang: first,
+                core: byte_at(payload, 1),
+            },
+        }
     }
+
+    ghost reads = { table_record_reads };
 }

@@ -1,23 +1,22 @@
 // Runs the record question and the payload over cases; what comes back is compared with the stored output, which was checked by
 // hand against document 01. A line is: the case, the refusal, the kind, the place of the next record, and the payload's bytes.
-// The cases are text and not calls, since each call with bytes of its own takes the prover half a second.
 #![tactic(auto)]
-
-ghost use Rattle.std.specs.Prelude.{◌≤◌, length};
 
 use std::io;
 use std::io::Write;
 use wire::kinds::Stream;
-use wire::number::byte_at;
-
-// What ends a case's name.
-const BAR: u8 = b'|';
-
-// The bar, and the three bytes after it that say what is asked.
-const NUMBERS: usize = 4;
+use wire::kinds::Stream::{Answers, Events, Table};
 
 const LARGEST: usize = 18446744073709551615;
 
+// Two event records, one after the other.
+const TICK_AND_SERVE: &[u8] = b"\x02\x00\x16\x00\x03\x00\x14\x00\x01";
+
+// A case's name, its stream, the place that is asked about, and the stream's bytes.
+#[derive(Clone, Copy)]
+struct Case<'a>(&'a str, Stream, usize, &'a [u8]);
+
+// The bytes in hexadecimal.
 fn show_bytes(out: &mut impl Write, s: &[u8]) -> io::Result<()> {
     for byte in s {
         write!(out, "{byte:02x}")?;
@@ -25,160 +24,163 @@ fn show_bytes(out: &mut impl Write, s: &[u8]) -> io::Result<()> {
     Ok(())
 }
 
-fn show(
-    out: &mut impl Write,
-    name: &[u8],
-    stream: Stream,
-    s: &[u8],
-    place: usize,
-) -> io::Result<()> {
-    out.write_all(name)?;
-    let told = wire::record::record_told(wire::record::record_at(stream, s, place));
-    write!(out, ": {} {} {} [", told.refusal, told.kind, told.next)?;
-    show_bytes(out, wire::record::payload_at(stream, s, place))?;
+// A case's line.
+fn show(out: &mut impl Write, case: Case<'_>) -> io::Result<()> {
+    let Case(name, stream, place, bytes) = case;
+    let told = wire::record::record_told(wire::record::record_at(stream, bytes, place));
+    write!(
+        out,
+        "{name}: {} {} {} [",
+        told.refusal, told.kind, told.next
+    )?;
+    show_bytes(out, wire::record::payload_at(stream, bytes, place))?;
     writeln!(out, "]")
 }
 
-// Where the name of the case at a place ends: at the next bar, or at the end.
-fn name_end(cases: &[u8], at: usize) -> usize
-    requires { at ≤ length cases.now }
-    ensures { (at ≤ result) × (result ≤ length cases.now) }
-{
-    let mut i = at;
-    while i < cases.len() {
-        if cases[i] == BAR {
-            return i;
-        }
-        i += 1;
-    }
-    i
-}
-
-// The stream of a case's letter.
-fn stream_of(letter: u8) -> Stream {
-    match letter {
-        b'T' => Stream::Table,
-        b'E' => Stream::Events,
-        _ => Stream::Answers,
-    }
-}
-
-// Runs cases, one after the other. A case is its name, a bar, the letter of its stream, the place, how many bytes there are, and the bytes.
-fn run(out: &mut impl Write, cases: &[u8]) -> io::Result<()> {
-    let mut at: usize = 0;
-    while at < cases.len() {
-        let bar = name_end(cases, at);
-        if cases.len() - bar < NUMBERS {
-            return Ok(());
-        }
-        let start = bar + NUMBERS;
-        let size = byte_at(cases, bar + 3) as usize;
-        if cases.len() - start < size {
-            return Ok(());
-        }
-        let end = start + size;
-        let stream = stream_of(byte_at(cases, bar + 1));
-        let place = byte_at(cases, bar + 2) as usize;
-        show(out, &cases[at..bar], stream, &cases[start..end], place)?;
-        at = end;
+// The lines of some cases.
+fn show_all(out: &mut impl Write, cases: &[Case<'_>]) -> io::Result<()> {
+    for case in cases {
+        show(out, *case)?;
     }
     Ok(())
 }
 
 fn every_kind_right(out: &mut impl Write) -> io::Result<()> {
-    run(
+    show_all(
         out,
-        b"\
-        CORES|T\x00\x05\x03\x00\x01\x00\x05\
-        GANG|T\x00\x09\x07\x00\x02\x00\x0a\x64\x00\x00\x00\
-        short GANG|T\x00\x05\x03\x00\x02\x00\x0a\
-        THREAD|T\x00\x06\x04\x00\x03\x00\x01\x02\
-        RELEASE|E\x00\x05\x03\x00\x10\x00\x07\
-        FINISH|E\x00\x05\x03\x00\x11\x00\x07\
-        WAIT|E\x00\x05\x03\x00\x12\x00\x07\
-        WAKE|E\x00\x05\x03\x00\x13\x00\x07\
-        SERVE|E\x00\x05\x03\x00\x14\x00\x07\
-        TRAFFIC|E\x00\x09\x07\x00\x15\x00\x02\x64\x00\x00\x00\
-        TICK|E\x00\x04\x02\x00\x16\x00\
-        ANSWER|A\x00\x12\x10\x00\x40\x00\x00\x01\x02\x00\x00\x00\x03\x00\x00\x00\x04\x00\x00\x00\
-    ",
+        &[
+            Case("CORES", Table, 0, b"\x03\x00\x01\x00\x05"),
+            Case("GANG", Table, 0, b"\x07\x00\x02\x00\x0a\x64\x00\x00\x00"),
+            Case("short GANG", Table, 0, b"\x03\x00\x02\x00\x0a"),
+            Case("THREAD", Table, 0, b"\x04\x00\x03\x00\x01\x02"),
+            Case("RELEASE", Events, 0, b"\x03\x00\x10\x00\x07"),
+            Case("FINISH", Events, 0, b"\x03\x00\x11\x00\x07"),
+            Case("WAIT", Events, 0, b"\x03\x00\x12\x00\x07"),
+            Case("WAKE", Events, 0, b"\x03\x00\x13\x00\x07"),
+            Case("SERVE", Events, 0, b"\x03\x00\x14\x00\x07"),
+            Case(
+                "TRAFFIC",
+                Events,
+                0,
+                b"\x07\x00\x15\x00\x02\x64\x00\x00\x00",
+            ),
+            Case("TICK", Events, 0, b"\x02\x00\x16\x00"),
+            Case(
+                "ANSWER",
+                Answers,
+                0,
+                b"\x10\x00\x40\x00\x00\x01\x02\x00\x00\x00\x03\x00\x00\x00\x04\x00\x00\x00",
+            ),
+        ],
     )
 }
 
 fn every_kind_one_byte_short(out: &mut impl Write) -> io::Result<()> {
-    run(
+    show_all(
         out,
-        b"\
-        CORES cut|T\x00\x04\x03\x00\x01\x00\
-        GANG cut|T\x00\x08\x07\x00\x02\x00\x0a\x64\x00\x00\
-        short GANG cut|T\x00\x04\x03\x00\x02\x00\
-        THREAD cut|T\x00\x05\x04\x00\x03\x00\x01\
-        RELEASE cut|E\x00\x04\x03\x00\x10\x00\
-        FINISH cut|E\x00\x04\x03\x00\x11\x00\
-        WAIT cut|E\x00\x04\x03\x00\x12\x00\
-        WAKE cut|E\x00\x04\x03\x00\x13\x00\
-        SERVE cut|E\x00\x04\x03\x00\x14\x00\
-        TRAFFIC cut|E\x00\x08\x07\x00\x15\x00\x02\x64\x00\x00\
-        TICK cut|E\x00\x03\x02\x00\x16\
-        ANSWER cut|A\x00\x11\x10\x00\x40\x00\x00\x01\x02\x00\x00\x00\x03\x00\x00\x00\x04\x00\x00\
-    ",
+        &[
+            Case("CORES cut", Table, 0, b"\x03\x00\x01\x00"),
+            Case("GANG cut", Table, 0, b"\x07\x00\x02\x00\x0a\x64\x00\x00"),
+            Case("short GANG cut", Table, 0, b"\x03\x00\x02\x00"),
+            Case("THREAD cut", Table, 0, b"\x04\x00\x03\x00\x01"),
+            Case("RELEASE cut", Events, 0, b"\x03\x00\x10\x00"),
+            Case("FINISH cut", Events, 0, b"\x03\x00\x11\x00"),
+            Case("WAIT cut", Events, 0, b"\x03\x00\x12\x00"),
+            Case("WAKE cut", Events, 0, b"\x03\x00\x13\x00"),
+            Case("SERVE cut", Events, 0, b"\x03\x00\x14\x00"),
+            Case(
+                "TRAFFIC cut",
+                Events,
+                0,
+                b"\x07\x00\x15\x00\x02\x64\x00\x00",
+            ),
+            Case("TICK cut", Events, 0, b"\x02\x00\x16"),
+            Case(
+                "ANSWER cut",
+                Answers,
+                0,
+                b"\x10\x00\x40\x00\x00\x01\x02\x00\x00\x00\x03\x00\x00\x00\x04\x00\x00",
+            ),
+        ],
     )
 }
 
 fn lengths(out: &mut impl Write) -> io::Result<()> {
-    run(
+    show_all(
         out,
-        b"\
-        length 0|E\x00\x05\x00\x00\x10\x00\x07\
-        length 1|E\x00\x05\x01\x00\x10\x00\x07\
-        length 65535|E\x00\x05\xff\xff\x10\x00\x07\
-        GANG of length 4|T\x00\x06\x04\x00\x02\x00\x0a\x00\
-        RELEASE of length 9, cut|E\x00\x05\x09\x00\x10\x00\x07\
-        kind 7 of length 500, cut|E\x00\x04\xf4\x01\x07\x00\
-        kind 7 of length 0|E\x00\x04\x00\x00\x07\x00\
-    ",
+        &[
+            Case("length 0", Events, 0, b"\x00\x00\x10\x00\x07"),
+            Case("length 1", Events, 0, b"\x01\x00\x10\x00\x07"),
+            Case("length 65535", Events, 0, b"\xff\xff\x10\x00\x07"),
+            Case("GANG of length 4", Table, 0, b"\x04\x00\x02\x00\x0a\x00"),
+            Case(
+                "RELEASE of length 9, cut",
+                Events,
+                0,
+                b"\x09\x00\x10\x00\x07",
+            ),
+            Case("kind 7 of length 500, cut", Events, 0, b"\xf4\x01\x07\x00"),
+            Case("kind 7 of length 0", Events, 0, b"\x00\x00\x07\x00"),
+        ],
     )
 }
 
 fn kinds_of_another_stream(out: &mut impl Write) -> io::Result<()> {
-    run(
+    show_all(
         out,
-        b"\
-        THREAD among events|E\x00\x06\x04\x00\x03\x00\x01\x02\
-        RELEASE in a table|T\x00\x05\x03\x00\x10\x00\x07\
-        ANSWER among events|E\x00\x05\x10\x00\x40\x00\x00\
-        TICK among answers|A\x00\x04\x02\x00\x16\x00\
-        kind 0 in a table|T\x00\x05\x03\x00\x00\x00\x05\
-        kind 4 in a table|T\x00\x09\x07\x00\x04\x00\x00\x00\x00\x00\x00\
-        kind 15 among events|E\x00\x05\x03\x00\x0f\x00\x07\
-        kind 23 among events|E\x00\x05\x03\x00\x17\x00\x07\
-        kind 272 among events|E\x00\x05\x03\x00\x10\x01\x07\
-        kind 65535 among events|E\x00\x05\x03\x00\xff\xff\x07\
-    ",
+        &[
+            Case(
+                "THREAD among events",
+                Events,
+                0,
+                b"\x04\x00\x03\x00\x01\x02",
+            ),
+            Case("RELEASE in a table", Table, 0, b"\x03\x00\x10\x00\x07"),
+            Case("ANSWER among events", Events, 0, b"\x10\x00\x40\x00\x00"),
+            Case("TICK among answers", Answers, 0, b"\x02\x00\x16\x00"),
+            Case("kind 0 in a table", Table, 0, b"\x03\x00\x00\x00\x05"),
+            Case(
+                "kind 4 in a table",
+                Table,
+                0,
+                b"\x07\x00\x04\x00\x00\x00\x00\x00\x00",
+            ),
+            Case("kind 15 among events", Events, 0, b"\x03\x00\x0f\x00\x07"),
+            Case("kind 23 among events", Events, 0, b"\x03\x00\x17\x00\x07"),
+            Case("kind 272 among events", Events, 0, b"\x03\x00\x10\x01\x07"),
+            Case(
+                "kind 65535 among events",
+                Events,
+                0,
+                b"\x03\x00\xff\xff\x07",
+            ),
+        ],
     )
 }
 
+// Every place is asked about in the same bytes.
 fn places(out: &mut impl Write) -> io::Result<()> {
-    run(
+    show_all(
         out,
-        b"\
-        first of two|E\x00\x09\x02\x00\x16\x00\x03\x00\x14\x00\x01\
-        second of two|E\x04\x09\x02\x00\x16\x00\x03\x00\x14\x00\x01\
-        inside a record|E\x01\x09\x02\x00\x16\x00\x03\x00\x14\x00\x01\
-        three bytes left|E\x06\x09\x02\x00\x16\x00\x03\x00\x14\x00\x01\
-        at the end|E\x09\x09\x02\x00\x16\x00\x03\x00\x14\x00\x01\
-        past the end|E\x0a\x09\x02\x00\x16\x00\x03\x00\x14\x00\x01\
-    ",
+        &[
+            Case("first of two", Events, 0, TICK_AND_SERVE),
+            Case("second of two", Events, 4, TICK_AND_SERVE),
+            Case("inside a record", Events, 1, TICK_AND_SERVE),
+            Case("three bytes left", Events, 6, TICK_AND_SERVE),
+            Case("at the end", Events, 9, TICK_AND_SERVE),
+            Case("past the end", Events, 10, TICK_AND_SERVE),
+            Case("the largest place", Events, LARGEST, TICK_AND_SERVE),
+        ],
     )
 }
 
 fn no_bytes(out: &mut impl Write) -> io::Result<()> {
-    run(
+    show_all(
         out,
-        b"\
-        no bytes|T\x00\x00\
-        no bytes, past the end|T\x01\x00\
-    ",
+        &[
+            Case("no bytes", Table, 0, b""),
+            Case("no bytes, past the end", Table, 1, b""),
+        ],
     )
 }
 
@@ -189,12 +191,5 @@ fn main(rt: HostRuntime) -> io::Result<()> {
     lengths(&mut out)?;
     kinds_of_another_stream(&mut out)?;
     places(&mut out)?;
-    show(
-        &mut out,
-        b"the largest place",
-        Stream::Events,
-        b"\x02\x00\x16\x00\x03\x00\x14\x00\x01",
-        LARGEST,
-    )?;
     no_bytes(&mut out)
 }

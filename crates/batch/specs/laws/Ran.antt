@@ -6,7 +6,7 @@ use Rattle.system.specs.declared.events.Reply.{Reply}
 use Rattle.wire.specs.Answer.{answer_size}
 use Rattle.wire.specs.Event.{next_event}
 use Rattle.wire.specs.declared.event.Event.{Event}
-use Rattle.wire.specs.declared.event.NextEvent.TheVariants as found
+use Rattle.wire.specs.NextEvent as found
 use Rattle.batch.specs.Turn.{Run, stopped_with, answered}
 use Rattle.batch.specs.Stops.{Stops}
 use Rattle.batch.specs.Batch.{and_then, batch_ends}

@@ -1,5 +1,5 @@
 -- What a turn comes to, as a case to take apart; and how long its answers are in bytes.
-use Rattle.std.specs.Prelude.{ℕ, ◌*◌, ◌≤◌, ◌≡◌, refl, List, [], ◌∷◌, ◌++◌, ltb, length}
+use Rattle.std.specs.Prelude.{ℕ, ◌*◌, ◌≤◌, ◌≡◌, refl, List, [], ◌∷◌, ◌++◌, Ok, ltb, length}
 use Rattle.std.proofs.Common.{sym, ◌∙◌, append_assoc, arith, length-append, lt-ltb, le-ltb, ltb-true, ltb-false}
 use Rattle.std.proofs.Math.Path.{ap}
 use Rattle.ranges.specs.laws.Logic.{either}
@@ -10,8 +10,8 @@ use Rattle.wire.specs.Event.{next_event}
 use Rattle.wire.specs.laws.Reader.{event_refused}
 use Rattle.wire.specs.declared.answer.AnswerRecord.{AnswerRecord}
 use Rattle.wire.specs.declared.event.Event.{Event}
-use Rattle.wire.specs.declared.event.NextEvent.{NextEvent}
-use Rattle.wire.specs.declared.event.NextEvent.TheVariants as found
+use Rattle.wire.specs.NextEvent.{NextEvent}
+use Rattle.wire.specs.NextEvent as found
 use Rattle.batch.specs.Turn.{Run, bytes_of, stopped_with, answered, turn_with, turn_of}
 use Rattle.batch.specs.Stops.{Stops, no_room, unreadable}
 
@@ -25,7 +25,7 @@ unfolding turn_of
 turn_way step s ev room = go (next_event ev) refl
   where
     go : (f : NextEvent) → next_event ev ≡ f → Turned step s ev room (turn_with step s room f)
-    go (found.Event e n) q =
+    go (Ok r) q =
         either (Turned step s ev room) (ltb room answer_size)
         (λ t. stops (no_room q (ltb-true room answer_size t))) (λ t. answers q (ltb-false room answer_size t))
     go (found.Refused refusal) q = stops (unreadable q)

@@ -1,5 +1,5 @@
 -- `coreset::clear` meets its contract: to take a core past the mask away changes nothing.
-use Rattle.std.proofs.Common.{rules, ap, sym, ◌∙◌, ℕ, ◌-◌, bit_and}
+use Rattle.std.proofs.Common.{rules, sym}
 use Rattle.coreset.specs.Set.{without_core}
 use Rattle.coreset.specs.laws.Bits.{and_put_at, shifted_one}
 use Rattle.coreset.specs.laws.Members.{has_beyond, without_absent}
@@ -9,8 +9,7 @@ pub returns-then-c-lt-WIDTH : goal.returns-then-c-lt-WIDTH
 unfolding without_core
 returns-then-c-lt-WIDTH c =
     let a = c.args in
-    ap (λ (x : ℕ). bit_and a.m (4294967295 - x)) (shifted_one 32 a.c c.if-c-lt-WIDTH.true)
-    ∙ and_put_at 32 a.m a.c c.if-c-lt-WIDTH.true (search rules)
+    rw (shifted_one 32 a.c c.if-c-lt-WIDTH.true) (and_put_at 32 a.m a.c c.if-c-lt-WIDTH.true (search rules))
 
 pub returns-else-c-lt-WIDTH : goal.returns-else-c-lt-WIDTH
 returns-else-c-lt-WIDTH c =

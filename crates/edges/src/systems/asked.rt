@@ -1,9 +1,10 @@
 // Events and questions on three systems: the empty one, one whose gang 0 has one release number left, and that gang's with none left.
 use crate::numbers::byte;
-use crate::show::{end_line, value};
 use std::io;
-use system::{Reply, System, Told};
+use system::{Reply, System};
+use wire::answer::{answer_number, answer_refusal, answer_value};
 use wire::kinds::{FINISH, RELEASE, SERVE, TRAFFIC, WAIT, WAKE};
+use wire::refusal::Refusal;
 
 const EMPTY: u8 = 0;
 
@@ -11,7 +12,7 @@ const ONE_LEFT: u8 = 1;
 
 // Gang 0 has taken 4,294,967,294 numbers, two of them served.
 fn one_left() -> System {
-    super::changed::releases(b"0 4294967294 2 4294967292 1")
+    super::changed::system_of(b'r', b"0 4294967294 2 4294967292 1")
 }
 
 fn system_of(n: u8) -> System {
@@ -22,53 +23,52 @@ fn system_of(n: u8) -> System {
     if n == ONE_LEFT {
         return s;
     }
-    let last = s.release(0);
-    last.system
-}
-
-// An event's refusal, value and number.
-fn show_reply(rt: &impl Print, name: &[u8], reply: Reply) -> io::Result<()> {
-    let answer = reply.answer;
-    crate::show::name(rt, name)?;
-    value(rt, wire::answer::answer_refusal(answer) as u64)?;
-    value(rt, wire::answer::answer_value(answer) as u64)?;
-    value(rt, wire::answer::answer_number(answer) as u64)?;
-    end_line(rt)
-}
-
-// A question's refusal and value.
-fn show_told(rt: &impl Print, name: &[u8], told: Told) -> io::Result<()> {
-    let finding = told.finding;
-    crate::show::name(rt, name)?;
-    value(rt, system::finding_refusal(finding) as u64)?;
-    value(rt, system::finding_value(finding) as u64)?;
-    end_line(rt)
+    s.release(0).system
 }
 
 // An event by its kind, on gang, thread or core 0.
-fn event_on(rt: &impl Print, name: &[u8], s: System, kind: u16) -> io::Result<()> {
+fn applied(s: System, kind: u16) -> Reply {
     match kind {
-        RELEASE => show_reply(rt, name, s.release(0)),
-        FINISH => show_reply(rt, name, s.finish(0)),
-        WAIT => show_reply(rt, name, s.wait(0)),
-        WAKE => show_reply(rt, name, s.wake(0)),
-        SERVE => show_reply(rt, name, s.serve(0)),
-        TRAFFIC => show_reply(rt, name, s.traffic(0, 0)),
-        _ => show_reply(rt, name, s.tick()),
+        RELEASE => s.release(0),
+        FINISH => s.finish(0),
+        WAIT => s.wait(0),
+        WAKE => s.wake(0),
+        SERVE => s.serve(0),
+        TRAFFIC => s.traffic(0, 0),
+        _ => s.tick(),
     }
 }
 
+// An event's refusal, value and number.
+fn event_on(rt: &impl Print, s: System, kind: u16) -> io::Result<()> {
+    let answer = applied(s, kind).answer;
+    println!(rt;
+        " {} {} {}",
+        answer_refusal(answer),
+        answer_value(answer),
+        answer_number(answer)
+    )
+}
+
 // A question in the order of document 01, about gang or core 0.
-fn question_of(rt: &impl Print, name: &[u8], s: System, question: u8) -> io::Result<()> {
+fn found(s: &System, question: u8) -> Result<u32, Refusal> {
     match question {
-        1 => show_told(rt, name, s.occupant(0)),
-        2 => show_told(rt, name, s.stopped(0)),
-        3 => show_told(rt, name, s.release_number(0)),
-        4 => show_told(rt, name, s.served(0)),
-        5 => show_told(rt, name, s.skipped(0)),
-        6 => show_told(rt, name, s.job_number(0)),
-        7 => show_told(rt, name, s.lowest_owing()),
-        _ => show_told(rt, name, s.owing_count()),
+        1 => s.occupant(0),
+        2 => s.stopped(0),
+        3 => s.release_number(0),
+        4 => s.served(0),
+        5 => s.skipped(0),
+        6 => s.job_number(0),
+        7 => s.lowest_owing(),
+        _ => s.owing_count(),
+    }
+}
+
+// A question's refusal and value.
+fn question_of(rt: &impl Print, s: &System, question: u8) -> io::Result<()> {
+    match found(s, question) {
+        Ok(value) => println!(rt; " 0 {value}"),
+        Err(refusal) => println!(rt; " {} 0", u8::from(refusal)),
     }
 }
 
@@ -76,9 +76,10 @@ fn question_of(rt: &impl Print, name: &[u8], s: System, question: u8) -> io::Res
 pub(crate) fn case(rt: &impl Print, name: &[u8], does: u8, what: &[u8]) -> io::Result<()> {
     let s = system_of(byte(what, 0));
     let n = byte(what, 1);
+    crate::show::name(rt, name)?;
     if does == b'a' {
-        event_on(rt, name, s, n as u16)
+        event_on(rt, s, n as u16)
     } else {
-        question_of(rt, name, s, n)
+        question_of(rt, &s, n)
     }
 }

@@ -1,12 +1,13 @@
 // A system that no table gives: one that events have reached, with some of its numbers changed. It prints the refusals of TICK and of a
 // question: 14 twice, or 0 twice.
 use crate::numbers::{byte, number, word};
-use crate::show::value;
 use ledger::Ledger;
+use lists::put;
 use lock::Lock;
 use std::io;
 use system::System;
 use table::{Sizes, Table};
+use wire::answer::answer_refusal;
 
 // How many gangs or cores, and how many threads, there is room for.
 const PLACES: u64 = 32;
@@ -42,118 +43,81 @@ fn started() -> System {
     served.system
 }
 
-fn with_table(table: Table) -> System {
-    let mut s = started();
-    s.table = table;
-    s
-}
-
-// How many cores, gangs and threads.
-fn counts(what: &[u8]) -> System {
-    with_table(table_of(byte(what, 0), byte(what, 1), byte(what, 2)))
-}
-
 // A gang, its priority and its budget.
-fn gang(what: &[u8]) -> System {
-    let g = (number(what, 0) % PLACES) as usize;
-    let mut table = worked_table();
-    table.priority[g] = byte(what, 1);
-    table.budget[g] = word(what, 2);
-    with_table(table)
+fn gang(table: &mut Table, what: &[u8]) {
+    let g = (number(what, 0) % PLACES) as u8;
+    put(&mut table.priority, g, byte(what, 1));
+    put(&mut table.budget, g, word(what, 2));
 }
 
 // A thread, its gang and its core.
-fn thread(what: &[u8]) -> System {
-    let t = (number(what, 0) % THREADS) as usize;
-    let mut table = worked_table();
-    table.gang[t] = byte(what, 1);
-    table.core[t] = byte(what, 2);
-    with_table(table)
-}
-
-// A thread and its state.
-fn state(what: &[u8]) -> System {
-    let t = (number(what, 0) % THREADS) as usize;
-    let mut s = started();
-    s.state[t] = byte(what, 1);
-    s
-}
-
-// A core and its kept count.
-fn kept(what: &[u8]) -> System {
-    let c = (number(what, 0) % PLACES) as usize;
-    let mut s = started();
-    s.kept[c] = word(what, 1);
-    s
+fn thread(table: &mut Table, what: &[u8]) {
+    let t = (number(what, 0) % THREADS) as u8;
+    put(&mut table.gang, t, byte(what, 1));
+    put(&mut table.core, t, byte(what, 2));
 }
 
 // A gang, its release number, its served and skipped counts and its job.
-fn ledger_with(mut ledger: Ledger, what: &[u8]) -> Ledger {
-    let g = (number(what, 0) % PLACES) as usize;
-    ledger.number[g] = word(what, 1);
-    ledger.served[g] = word(what, 2);
-    ledger.skipped[g] = word(what, 3);
-    ledger.job[g] = word(what, 4);
-    ledger
-}
-
-pub(crate) fn releases(what: &[u8]) -> System {
-    let mut s = started();
-    let ledger = s.ledger;
-    s.ledger = ledger_with(ledger, what);
-    s
+fn releases(ledger: &mut Ledger, what: &[u8]) {
+    let g = (number(what, 0) % PLACES) as u8;
+    put(&mut ledger.number, g, word(what, 1));
+    put(&mut ledger.served, g, word(what, 2));
+    put(&mut ledger.skipped, g, word(what, 3));
+    put(&mut ledger.job, g, word(what, 4));
 }
 
 // The holder, the locked, blocked and owing cores, and a core and its occupant.
-fn lock_with(mut lock: Lock, what: &[u8]) -> Lock {
-    let c = (number(what, 4) % PLACES) as usize;
+fn lock(lock: &mut Lock, what: &[u8]) {
     lock.holder = byte(what, 0);
     lock.locked = word(what, 1);
     lock.blocked = word(what, 2);
     lock.owing = word(what, 3);
-    lock.occupant[c] = byte(what, 5);
-    lock
-}
-
-fn lock(what: &[u8]) -> System {
-    let mut s = started();
-    let lock = s.lock;
-    s.lock = lock_with(lock, what);
-    s
+    put(
+        &mut lock.occupant,
+        (number(what, 4) % PLACES) as u8,
+        byte(what, 5),
+    );
 }
 
 // The system of a case, by the letter of what it changes; no such letter: the empty system.
-fn system_of(does: u8, what: &[u8]) -> System {
+pub(crate) fn system_of(does: u8, what: &[u8]) -> System {
+    let mut s = started();
     match does {
-        b'c' => counts(what),
-        b'g' => gang(what),
-        b't' => thread(what),
-        b's' => state(what),
-        b'k' => kept(what),
-        b'r' => releases(what),
-        b'l' => lock(what),
-        _ => System::empty(),
+        // How many cores, gangs and threads.
+        b'c' => s.table = table_of(byte(what, 0), byte(what, 1), byte(what, 2)),
+        b'g' => gang(&mut s.table, what),
+        b't' => thread(&mut s.table, what),
+        // A thread and its state.
+        b's' => put(
+            &mut s.state,
+            (number(what, 0) % THREADS) as u8,
+            byte(what, 1),
+        ),
+        // A core and its kept count.
+        b'k' => put(&mut s.kept, (number(what, 0) % PLACES) as u8, word(what, 1)),
+        b'r' => releases(&mut s.ledger, what),
+        b'l' => lock(&mut s.lock, what),
+        _ => s = System::empty(),
     }
+    s
 }
 
 // The refusal number of a system's TICK.
 fn ticked(s: System) -> u8 {
-    let reply = s.tick();
-    let answer = reply.answer;
-    wire::answer::answer_refusal(answer)
+    answer_refusal(s.tick().answer)
 }
 
 // The refusal number of the question how many of its cores owe.
-fn counted(s: System) -> u8 {
-    let told = s.owing_count();
-    let finding = told.finding;
-    system::finding_refusal(finding)
+fn counted(s: &System) -> u8 {
+    match s.owing_count() {
+        Ok(_) => 0,
+        Err(refusal) => u8::from(refusal),
+    }
 }
 
+// A case's line: its name, and both refusal numbers.
 pub(crate) fn case(rt: &impl Print, name: &[u8], does: u8, what: &[u8]) -> io::Result<()> {
     let s = system_of(does, what);
     crate::show::name(rt, name)?;
-    value(rt, ticked(s) as u64)?;
-    value(rt, counted(s) as u64)?;
-    crate::show::end_line(rt)
+    println!(rt; " {} {}", ticked(s), counted(&s))
 }

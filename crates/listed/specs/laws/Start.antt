@@ -1,14 +1,10 @@
 -- Where the events start in each case, and that the place lies within the input.
-use Prim.Native.Nat.{ℕ, zero, suc, ◌≤◌, ◌<◌}
-use Rattle.std.specs.Prelude.{◌≡◌, Bool, true, false, cond, List, ltb, length}
-use Rattle.std.proofs.Math.Path.{refl}
-use Rattle.std.proofs.Common.{◌∙◌, arith}
-use borrow.Author.Tests.{lt-ltb, le-ltb}
+use Rattle.std.specs.Prelude.{ℕ, zero, suc, ◌≤◌, ◌<◌, ◌≡◌, refl, Bool, true, false, cond, List, ltb, length, Ok}
+use Rattle.std.proofs.Common.{◌∙◌, arith, lt-ltb, le-ltb}
 use Rattle.wire.specs.Record.{header_size, kind_at, bytes_left, record_at}
 use Rattle.wire.specs.Question.{no_header, question_gives, record_whole}
 use Rattle.wire.specs.declared.kinds.Stream.TheVariants as stream
-use Rattle.wire.specs.declared.record.Seen.{Seen}
-use Rattle.wire.specs.declared.record.Seen.TheVariants.{Record, Refused}
+use Rattle.wire.specs.Seen.{Seen, Record, Refused}
 use Rattle.wire.specs.declared.refusal.Refusal.{Refusal}
 use Rattle.wire.specs.declared.refusal.Refusal.TheVariants.{CutShort}
 use Rattle.listed.specs.Start.{first_event_kind, split_at, on_seen, start_from, events_start}
@@ -62,7 +58,7 @@ from_inside (suc n) s at l = go (record_at stream.Table s at) refl (from_inside 
   where
     go : (x : Seen) → record_at stream.Table s at ≡ x → ((next : ℕ) → next ≤ length s → start_from n s next ≤ length s)
         → on_seen x (start_from n s) (split_at s at) ≤ length s
-    go (Record kind next) e on = on next (record_whole stream.Table s at e).inside
+    go (Ok whole) e on = on whole.next (record_whole stream.Table s at e).inside
     go (Refused refusal) e on = split_inside s at l
 
 pub start_inside : (s : List ℕ) → events_start s ≤ length s

@@ -1,6 +1,6 @@
 -- What each rule of SERVE comes to, case by case: what the code's branches and the laws of SERVE go by.
 use Rattle.std.specs.Prelude.{ℕ, ◌<◌, ◌≤◌, Bool, true, false, ◌≡◌, refl}
-use borrow.Author.Tests.{eq-eqb, ne_eqb, lt-ltb, le-ltb}
+use Rattle.std.proofs.Common.{eq-eqb, ne_eqb, lt-ltb, le-ltb}
 use Rattle.lock.specs.declared.Lock.{Lock}
 use Rattle.lock.specs.Serve.{
   unmarked_of,

@@ -1,9 +1,6 @@
 -- The count of services left: how its values compare before and after a service, and what its tests tell.
-use Rattle.std.specs.Prelude.{ℕ, ◌<◌, ◌≤◌, Bool, not, ◌≡◌, ◌⊎◌, eqb}
-use Rattle.std.proofs.Math.Bool.{true, false, cond}
-use Rattle.std.proofs.Math.Path.{refl}
-use Rattle.std.proofs.Common.{⊎_elim, arith}
-use borrow.Author.Tests.{eq-eqb, ne_eqb, eqb-true}
+use Rattle.std.specs.Prelude.{ℕ, ◌<◌, ◌≤◌, Bool, true, false, cond, not, ◌≡◌, ◌⊎◌, eqb, refl}
+use Rattle.std.proofs.Common.{⊎_elim, arith, eq-eqb, ne_eqb, eqb-true}
 use Rattle.coreset.specs.Set.{has}
 use Rattle.coreset.specs.laws.Members.{apart, make_apart}
 use Rattle.ranges.specs.laws.Logic.{clash, is_false}

@@ -1,12 +1,11 @@
 -- `reading::read_with`: each turn reads the record at the place, and the loop keeps that reading on gives the whole reading.
 use Rattle.std.proofs.Common.{◌-◌, length}
-use Rattle.table.specs.Rules.{table_of}
 use Rattle.reading.specs.laws.Sofar.{Sofar}
 use Rattle.reading.proofs.read_with.Given as goal
 
 abbrev pub invariant-loop-at : goal.invariant-loop-at
 invariant-loop-at l =
-    Sofar l.default l.bytes (table_of l.sizes l.priority l.budget l.gang l.core) l.at
+    Sofar l.default l.bytes l.table l.at
 
 abbrev pub decreases-loop-at : goal.decreases-loop-at
 decreases-loop-at l =

@@ -1,10 +1,7 @@
 -- Each record keeps a table under construction: an accepted one by the tests that it passed, a refused one as it came.
-use Rattle.std.specs.Prelude.{ℕ, ◌+◌, ◌<◌, ◌≤◌, Bool, cond, ◌≡◌, length, set}
-use Rattle.std.proofs.Math.Bool.{true, false}
-use Rattle.std.proofs.Math.Path.{refl}
+use Rattle.std.specs.Prelude.{ℕ, ◌+◌, ◌<◌, ◌≤◌, Bool, true, false, cond, ◌≡◌, refl, eqb, leb, length, set}
 use Rattle.std.proofs.Common.{sym, ◌∙◌, arith, get_or-set_same, get_or-set_other, eqb-true, leb-false}
 use Rattle.std.proofs.Math.Decide.{ℕ_discrete}
-use Rattle.std.proofs.Math.Dec.{eqb, leb}
 use Rattle.table.specs.declared.Table.{Table}
 use Rattle.table.specs.Numbers.{max_cores, max_gangs, max_threads}
 use Rattle.table.specs.Order.{priority_of}

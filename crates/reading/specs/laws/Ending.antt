@@ -1,10 +1,10 @@
 -- Laws of `Ending`.
 use Rattle.std.specs.Prelude.{◌≡◌, true, false}
-use borrow.Author.Tests.{eq-eqb, ne_eqb}
+use Rattle.std.proofs.Common.{eq-eqb, ne_eqb}
 use Rattle.table.specs.declared.Table.{Table}
 use Rattle.table.specs.Rules.{manned_hold}
 use Rattle.wire.specs.declared.refusal.Refusal.TheVariants.{Unfinished}
-use Rattle.reading.specs.declared.rules.Verdict.TheVariants.{Accepted, Refused}
+use Rattle.reading.specs.Verdict.{Accepted, Refused}
 use Rattle.reading.specs.Ending.{ending}
 
 module _ (b : Table) where

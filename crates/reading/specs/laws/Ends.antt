@@ -1,8 +1,8 @@
 -- A table's end goes one of the ways of `Rows`; and what each comes to.
 use Rattle.std.specs.Prelude.{ℕ, zero, suc, ◌<◌, Bool, true, false, ◌&&◌, ◌≡◌, refl, eqb}
-use Rattle.std.proofs.Common.{true≢false, arith}
+use Rattle.std.proofs.Common.{true≢false, arith, eqb-true}
 use Rattle.std.proofs.Math.Decide.{ℕ_discrete}
-use borrow.Author.Tests.{eqb-true, eqb-false}
+use Rattle.std.proofs.lemmas.Bool.{eqb-false}
 use Rattle.ranges.specs.Range.{every}
 use Rattle.ranges.specs.laws.Logic.{either}
 use Rattle.ranges.specs.laws.Range.{not_every}
@@ -14,7 +14,7 @@ use Rattle.table.specs.laws.Parts.{manned_ok, ok_manned}
 use Rattle.wire.specs.Refusal.{number_of}
 use Rattle.wire.specs.declared.refusal.Refusal.{Refusal}
 use Rattle.wire.specs.declared.refusal.Refusal.TheVariants.{Unfinished}
-use Rattle.reading.specs.declared.rules.Verdict.TheVariants.{Accepted, Refused}
+use Rattle.reading.specs.Verdict.{Accepted, Refused}
 use Rattle.reading.specs.Ending.{ending}
 use Rattle.reading.specs.Rows.{ThreadRead, RefusesEnd, ends_without_cores, ends_without_gang, ends_without_thread, AcceptsEnd}
 use Rattle.reading.specs.Rows.{EndWay, end_bad, end_good}

@@ -1,15 +1,14 @@
 -- The refusal numbers of a table: 1 to 3 from the record question, 4 to 7 from the rules on a record, and 8 at the end.
-use Rattle.std.specs.Prelude.{ℕ, ◌≤◌, Bool, cond, List, eqb, leb}
-use Rattle.std.proofs.Math.Bool.{true, false}
-use native.Mathlib.Omega.{arith}
+use Rattle.std.specs.Prelude.{ℕ, ◌≤◌, Bool, true, false, cond, List, eqb, leb, Ok}
+use Rattle.std.proofs.Common.{arith}
 use Rattle.table.specs.declared.Table.{Table}
 use Rattle.table.specs.Numbers.{max_gangs, max_threads}
 use Rattle.table.specs.Occurs.{occurs}
 use Rattle.wire.specs.laws.Reader.{TableRecordIn, table_record_in}
 use Rattle.wire.specs.Table.{next_table_record}
 use Rattle.wire.specs.declared.refusal.Refusal.TheVariants.{NotCoresFirst, TooMany, OutOfRange, PriorityTaken}
-use Rattle.wire.specs.declared.table_record.NextTableRecord.{NextTableRecord}
-use Rattle.wire.specs.declared.table_record.NextTableRecord.TheVariants as found
+use Rattle.wire.specs.NextTableRecord.{NextTableRecord}
+use Rattle.wire.specs.NextTableRecord as found
 use Rattle.wire.specs.declared.table_record.TableRecord.{TableRecord}
 use Rattle.wire.specs.declared.table_record.TableRecord.TheVariants as put
 use Rattle.reading.specs.Taken.{verdict_number, record_refused, record_accepted, with_cores, with_gang, with_thread, count_fits, gang_fits}
@@ -71,5 +70,5 @@ unfolding table_turn
 turn_known d b s = go (next_table_record s) (table_record_in s)
   where
     go : (f : NextTableRecord) → TableRecordIn s f → verdict_number (table_turn_with d b f).taken.verdict ≤ 7
-    go (found.Record one next) w = taken_known b d one
+    go (Ok one) w = taken_known b d one.found
     go (found.Refused refusal) o = omega arith

@@ -1,12 +1,9 @@
 -- What reading on comes to: at the end, at a refused record and at an accepted one.
-use Prim.Native.Nat.{ℕ, zero, suc, ◌+◌, ◌<◌}
-use Rattle.std.specs.Prelude.{◌≡◌, List, length, drop}
-use Rattle.std.proofs.Math.Path.{refl}
+use Rattle.std.specs.Prelude.{ℕ, zero, suc, ◌+◌, ◌<◌, ◌≡◌, refl, List, length, drop}
 use Rattle.std.proofs.Common.{sym, ap, arith, eq-eqb, ne_eqb}
 use Rattle.table.specs.declared.Table.{Table}
 use Rattle.wire.specs.declared.refusal.Refusal.{Refusal}
-use Rattle.reading.specs.declared.rules.Verdict.{Verdict}
-use Rattle.reading.specs.declared.rules.Verdict.TheVariants.{Accepted, Refused}
+use Rattle.reading.specs.Verdict.{Verdict, Accepted, Refused}
 use Rattle.reading.specs.Ending.{ending}
 use Rattle.reading.specs.Turn.{table_turn}
 use Rattle.reading.specs.Reading.{told, table_ends, read_from}

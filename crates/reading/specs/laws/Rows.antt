@@ -1,7 +1,7 @@
 -- Every record goes one of the ways of `Rows`; and what each row comes to.
 use Rattle.std.specs.Prelude.{ℕ, ◌≤◌, ◌<◌, false, ◌⊎◌, ◌≡◌, eqb, leb}
-use Rattle.std.proofs.Common.{inl, inr, arith}
-use borrow.Author.Tests.{eqb-true, eqb-false, leb-true, leb-false}
+use Rattle.std.proofs.Common.{inl, inr, arith, eqb-true, leb-true, leb-false}
+use Rattle.std.proofs.lemmas.Bool.{eqb-false}
 use Rattle.ranges.specs.laws.Logic.{either}
 use Rattle.table.specs.declared.Table.{Table}
 use Rattle.table.specs.Numbers.{max_cores, max_gangs, max_threads, top_priority, max_budget}

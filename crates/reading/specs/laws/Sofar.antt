@@ -1,16 +1,14 @@
 -- What reading a table keeps from record to record: reading on from where it stands gives the whole reading.
 use Rattle.std.specs.Prelude.{ℕ, zero, suc, ◌+◌, ◌-◌, ◌≤◌, ◌<◌, ◌≡◌, refl, List, length, drop}
-use Rattle.std.proofs.Math.Path.{sym, ap}
-use Rattle.std.proofs.Common.{◌∙◌, arith, length-drop, drop-drop}
+use Rattle.std.proofs.Common.{sym, ap, ◌∙◌, arith, length-drop, drop-drop}
 use Rattle.table.specs.declared.Table.{Table}
 use Rattle.table.specs.Rules.{empty_table}
 use Rattle.wire.specs.Question.{WholeRecord}
 use Rattle.wire.specs.Table.{next_table_record}
 use Rattle.wire.specs.declared.refusal.Refusal.{Refusal}
 use Rattle.wire.specs.declared.table_record.TableRecord.{TableRecord}
-use Rattle.wire.specs.declared.table_record.NextTableRecord.TheVariants as found
-use Rattle.reading.specs.declared.rules.Verdict.{Verdict}
-use Rattle.reading.specs.declared.rules.Verdict.TheVariants.{Accepted, Refused}
+use Rattle.wire.specs.NextTableRecord as found
+use Rattle.reading.specs.Verdict.{Verdict, Accepted, Refused}
 use Rattle.reading.specs.Taken.{Taken, record_refused, record_taken}
 use Rattle.reading.specs.Turn.{TableTurn, table_turn_with, table_turn}
 use Rattle.reading.specs.laws.TableTurn.{turn_whole}

@@ -1,6 +1,7 @@
 -- What one more record comes to in each case: a law for each branch.
 use Rattle.std.specs.Prelude.{ℕ, ◌≤◌, ◌<◌, ◌≡◌, true, false}
-use borrow.Author.Tests.{eq-eqb, ne_eqb, le-leb, lt-leb}
+use Rattle.std.proofs.Common.{eq-eqb, ne_eqb, le-leb}
+use Rattle.std.proofs.lemmas.Bool.{lt-leb}
 use Rattle.table.specs.declared.Table.{Table}
 use Rattle.table.specs.Numbers.{max_gangs, max_threads}
 use Rattle.table.specs.Occurs.{occurs}

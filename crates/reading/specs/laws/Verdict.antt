@@ -2,7 +2,7 @@
 use Rattle.std.specs.Prelude.{ℕ, ◌≡◌}
 use Rattle.std.proofs.Common.{arith}
 use Rattle.wire.specs.declared.refusal.Refusal.{Refusal}
-use Rattle.reading.specs.declared.rules.Verdict.TheVariants.{Accepted, Refused}
+use Rattle.reading.specs.Verdict.{Accepted, Refused}
 
 pub no_refusal : {r : Refusal} → Accepted ≡ Refused r → ⊥
 no_refusal q = let z : ◌≡◌ {A = ℕ} 0 1 = cc in omega arith

@@ -1,5 +1,5 @@
 -- A walk through a table's records keeps what reading keeps; so where it stops is what reading comes to, and every table's walk stops somewhere.
-use Rattle.std.specs.Prelude.{ℕ, zero, suc, ◌+◌, ◌-◌, ◌≤◌, ◌<◌, List, ◌≡◌, refl, length, drop}
+use Rattle.std.specs.Prelude.{ℕ, zero, suc, ◌+◌, ◌-◌, ◌≤◌, ◌<◌, List, ◌≡◌, refl, length, drop, Ok}
 use Rattle.std.proofs.Common.{sym, ap, subst, ◌∙◌, arith}
 use Rattle.std.proofs.Math.Decide.{ℕ_discrete}
 use Rattle.table.specs.declared.Table.{Table}
@@ -7,12 +7,11 @@ use Rattle.table.specs.Rules.{empty_table}
 use Rattle.wire.specs.Question.{Question, question, question_gives, WholeRecord, record_whole}
 use Rattle.wire.specs.Record.{record_at}
 use Rattle.wire.specs.declared.kinds.Stream.TheVariants as stream
-use Rattle.wire.specs.declared.record.Seen.{Seen}
-use Rattle.wire.specs.declared.record.Seen.TheVariants as seen
+use Rattle.wire.specs.Seen.{Seen}
+use Rattle.wire.specs.Seen as seen
 use Rattle.wire.specs.declared.refusal.Refusal.{Refusal}
 use Rattle.wire.specs.laws.Reader.{table_record_refused, table_record_whole}
-use Rattle.reading.specs.declared.rules.Verdict.{Verdict}
-use Rattle.reading.specs.declared.rules.Verdict.TheVariants.{Accepted, Refused}
+use Rattle.reading.specs.Verdict.{Verdict, Accepted, Refused}
 use Rattle.reading.specs.Reading.{told, reading_of}
 use Rattle.reading.specs.Rows.{RecordWay, record_bad, record_good, EndWay, end_bad, end_good}
 use Rattle.reading.specs.Taken.{Taken, record_refused, record_accepted, record_taken}
@@ -85,7 +84,7 @@ module _ (d : ℕ) (s : List ℕ) where
 
       by : (r : Seen) → Question stream.Table s at r → at < length s → TableWay d s
       by (seen.Refused r) q k = table_bad (record { table_then = b; before = w; reason = question_refuses k q })
-      by (seen.Record kind next) q k = its_way q (record_way d b (record_there s at kind))
+      by (Ok r) q k = its_way q (record_way d b (record_there s at r.kind))
 
       at_end : Dec (at ≡ length s) → TableWay d s
       at_end (yes e) = ending_way w e

@@ -1,6 +1,6 @@
 -- What each way through the tests comes to.
-use Rattle.std.specs.Prelude.{ℕ, ◌≤◌, ◌<◌, true, false, ◌≡◌}
-use borrow.Author.Tests.{eq-eqb, ne_eqb, lt-ltb, le-ltb}
+use Rattle.std.specs.Prelude.{ℕ, ◌≤◌, ◌<◌, true, false, Ok, Err, ◌≡◌}
+use Rattle.std.proofs.lemmas.Bool.{eq-eqb, ne_eqb, lt-ltb, le-ltb}
 use Rattle.coreset.specs.Set.{has}
 use Rattle.table.specs.Numbers.{finished, waiting}
 use Rattle.wire.specs.declared.refusal.Refusal.TheVariants.{OutOfRange, NotWellFormed}
@@ -8,21 +8,20 @@ use Rattle.system.specs.declared.System.{System}
 use Rattle.system.specs.System.{state_in, core_in, gang_in, running, first_in, ahead_in}
 use Rattle.system.specs.WellFormed.{well_formed}
 use Rattle.reason.specs.declared.Reason.TheVariants as reason
-use Rattle.reason.specs.declared.Explanation.TheVariants as explanation
 use Rattle.reason.specs.Why.{outranked_reason, ready_reason, reason_of, explained_of, why_of}
 
 module _ (s : System) (t : ℕ) where
   -- ---- the question
 
-  pub why_given : well_formed s ≡ true → t < s.table.sizes.threads → why_of s t ≡ explained_of s (explanation.Reason (reason_of s t))
+  pub why_given : well_formed s ≡ true → t < s.table.sizes.threads → why_of s t ≡ explained_of s (Ok (reason_of s t))
   unfolding why_of
   why_given w l = rw (w, lt-ltb t s.table.sizes.threads l)
 
-  pub why_beyond : well_formed s ≡ true → s.table.sizes.threads ≤ t → why_of s t ≡ explained_of s (explanation.Refused OutOfRange)
+  pub why_beyond : well_formed s ≡ true → s.table.sizes.threads ≤ t → why_of s t ≡ explained_of s (Err OutOfRange)
   unfolding why_of
   why_beyond w l = rw (w, le-ltb t s.table.sizes.threads l)
 
-  pub why_unformed : well_formed s ≡ false → why_of s t ≡ explained_of s (explanation.Refused NotWellFormed)
+  pub why_unformed : well_formed s ≡ false → why_of s t ≡ explained_of s (Err NotWellFormed)
   unfolding why_of
   why_unformed w = rw w
 

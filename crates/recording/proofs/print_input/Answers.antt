@@ -4,15 +4,14 @@ use Rattle.listed.specs.laws.Start.{start_inside}
 use Rattle.recording.proofs.Place.{place_within}
 use Rattle.recording.proofs.print_input.Goals as goal
 
-pub slice_bounds-read_system-end : goal.slice_bounds-read_system-end
-slice_bounds-read_system-end g c =
-    simp length-take (omega (arith, c.events_start-start.ensures, start_inside c.args.bytes.now))
-
-pub overflow_cast-read : goal.overflow_cast-read
-overflow_cast-read g c =
-    let start = c.events_start-start.result in
-    let place = place_within (take start c.args.bytes.now) c.read_system-read.ensures in
-    omega (arith, place, length-take start c.args.bytes.now, c.requires)
+pub slice_bounds-read_table-end : goal.slice_bounds-read_table-end
+slice_bounds-read_table-end g c = simp length-take (omega (arith, c.events_start-start.ensures, start_inside c.args.bytes.now))
 
 pub print_events-requires : goal.print_events-requires
 print_events-requires g c = (omega (arith, c.events_start-start.ensures, start_inside c.args.bytes.now), c.requires)
+
+pub overflow_cast-refused : goal.overflow_cast-refused
+overflow_cast-refused g c =
+    let start = c.events_start-start.result in
+    let place = place_within (take start c.args.bytes.now) c.in-Err.refused c.in-Err.ensures in
+    omega (arith, place, length-take start c.args.bytes.now, c.requires)

@@ -1,14 +1,15 @@
 -- What a RELEASE makes of the threads, exactly: "all become ready"; when all of a gang's threads are finished, and when a thread is running.
-use Prim.Native.Nat.{ℕ, zero, suc, ◌<◌, ◌≤◌}
+use Rattle.std.specs.Prelude.{ℕ, zero, suc, ◌<◌, ◌≤◌}
 use Rattle.std.specs.Prelude.{true, false, cond, ◌≡◌, ◌⊎◌, set}
 use Rattle.std.proofs.Math.Path.{refl}
 use Rattle.std.proofs.Common.{sym, ap, ◌∙◌, inl, inr, get_or-set_same, arith}
-use mathlib.Core.List.{List}
+use Rattle.std.specs.Prelude.{List}
 use Rattle.std.proofs.Math.Dec.{eqb}
 use Rattle.std.proofs.Math.ListN.{length, get_or, length-set, get_or-eq_default}
 use Rattle.std.proofs.Math.Seq.{get_or-set_other}
 use Rattle.std.proofs.Math.Decide.{ℕ_discrete, dec_lt}
-use borrow.Author.Tests.{eq-eqb, eqb-true, eqb-false, not-true}
+use Rattle.std.proofs.Common.{eq-eqb, eqb-true}
+use Rattle.std.proofs.lemmas.Bool.{eqb-false, not-true}
 use Rattle.table.specs.Numbers.{finished, ready}
 use Rattle.table.specs.Order.{gang_of, core_of}
 use Rattle.ranges.specs.laws.Logic.{both, either, is_false, implied, make_implies, unimplied}

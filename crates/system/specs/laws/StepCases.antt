@@ -1,6 +1,6 @@
 -- What each event comes to, case by case: what the code's branches and the laws of events go by.
 use Rattle.std.specs.Prelude.{ℕ, ◌≤◌, ◌<◌, ◌≡◌, true, false, get_or}
-use borrow.Author.Tests.{eq-eqb, ne_eqb, le-leb, lt-leb, lt-ltb, le-ltb}
+use Rattle.std.proofs.lemmas.Bool.{eq-eqb, ne_eqb, le-leb, lt-leb, lt-ltb, le-ltb}
 use Rattle.ledger.specs.Releases.{last_number}
 use Rattle.table.specs.Numbers.{ready, waiting}
 use Rattle.wire.specs.declared.answer.Answer.TheVariants.{Served, Skipped, Occupant, Counted, Done}

@@ -5,7 +5,7 @@ use Rattle.std.proofs.Common.{sym, ◌∙◌, ⊎_elim, get_or-set_other, arith}
 use Rattle.std.proofs.Math.Path.{ap}
 use Rattle.std.proofs.Math.Dec.{eqb}
 use Rattle.std.proofs.Math.Decide.{ℕ_discrete, dec_lt}
-use borrow.Author.Tests.{eq-eqb, ne_eqb, eqb-true}
+use Rattle.std.proofs.Common.{eq-eqb, ne_eqb, eqb-true}
 use Rattle.pick.specs.laws.Pick.{IsFirst, pick_first, pick_cong}
 use Rattle.ranges.specs.laws.Logic.{both}
 use Rattle.table.specs.Numbers.{ready}

@@ -5,7 +5,7 @@ use Rattle.std.proofs.Common.{true≢false, sym, ◌∙◌, ⊎_elim, arith}
 use Rattle.std.proofs.Math.Path.{refl}
 use Rattle.std.proofs.Math.Logic.{inl, inr}
 use Rattle.std.proofs.Math.Decide.{dec_lt}
-use borrow.Author.Tests.{lt-ltb, le-ltb, ltb-true, ltb-false}
+use Rattle.std.proofs.Common.{lt-ltb, le-ltb, ltb-true, ltb-false}
 use Rattle.pick.specs.laws.Pick.{Strict}
 use Rattle.table.specs.Order.{gang_of, priority_of, ahead_by, before_by, Lineup, ahead, before}
 

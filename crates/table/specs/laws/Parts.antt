@@ -5,7 +5,8 @@ use Rattle.std.proofs.Common.{sym, arith}
 use Rattle.std.proofs.Math.Path.{ap}
 use Rattle.std.proofs.Math.Dec.{leb}
 use Rattle.std.proofs.Math.Decide.{dec_lt}
-use borrow.Author.Tests.{eq-eqb, ne_eqb, eqb-true, eqb-false, lt-ltb, ltb-true, le-leb, leb-true, not-true}
+use Rattle.std.proofs.Common.{eq-eqb, ne_eqb, eqb-true, lt-ltb, ltb-true, le-leb, leb-true}
+use Rattle.std.proofs.lemmas.Bool.{eqb-false, not-true}
 use Rattle.ranges.specs.laws.Logic.{both}
 use Rattle.ranges.specs.laws.Places.{places_used, places_unused, make_places}
 use Rattle.ranges.specs.laws.Range.{every_true, make_every}

@@ -1,9 +1,9 @@
 -- The record at a place is the first of the bytes from there on: what a reader that is handed that part makes of it.
-use Rattle.std.specs.Prelude.{ℕ, ◌+◌, ◌*◌, ◌-◌, ◌≡◌, refl, List, get_or, take, drop}
+use Rattle.std.specs.Prelude.{ℕ, ◌+◌, ◌*◌, ◌-◌, ◌≡◌, refl, List, get_or, take, drop, Ok}
 use Rattle.std.proofs.Common.{sym, ap, ap₂, ◌∙◌, arith, length-drop, get_or-drop, drop-drop}
 use Rattle.wire.specs.declared.kinds.Stream.{Stream}
-use Rattle.wire.specs.declared.record.Seen.{Seen}
-use Rattle.wire.specs.declared.record.Seen.TheVariants.{Record, Refused}
+use Rattle.wire.specs.Seen.{Seen}
+use Rattle.wire.specs.Seen.{Record, Refused}
 use Rattle.wire.specs.declared.refusal.Refusal.{Refusal}
 use Rattle.wire.specs.Number.{le16}
 use Rattle.wire.specs.Record.{header_size, length_at, kind_at, bytes_left, record_at, payload_of, payload_at, read_seen, read_first}
@@ -11,7 +11,7 @@ use Rattle.wire.specs.Question.{Question, no_header, wrong_kind, wrong_length, c
 
 -- what is found in the part from the place at on, with its place told from the start of the whole
 abbrev seen_from : ℕ → Seen → Seen
-seen_from at (Record kind next) = Record kind (at + next)
+seen_from at (Ok r) = Record r.kind (at + r.next)
 seen_from at (Refused refusal) = Refused refusal
 
 module _ (s : List ℕ) (at : ℕ) where
@@ -46,8 +46,8 @@ module _ (s : List ℕ) (at : ℕ) where
             ∙ ap₂ (λ (k n : ℕ). Record k (at + n)) kind_from (let e = length_from in omega arith)
 
     payload_seen : (r : Seen) → payload_of (seen_from at r) s at ≡ payload_of r (drop at s) 0
-    payload_seen (Record kind next) =
-        let e : at + next - (at + header_size) ≡ next - header_size = omega arith in
+    payload_seen (Ok r) =
+        let e : at + r.next - (at + header_size) ≡ r.next - header_size = omega arith in
         ap₂ (λ (n : ℕ) (p : List ℕ). take n p) e (sym (drop-drop header_size at s))
     payload_seen (Refused refusal) = refl
 
@@ -64,5 +64,5 @@ module _ (s : List ℕ) (at : ℕ) where
       where
         by : (r : Seen) (p : List ℕ)
             → read_seen (λ kind payload next. found kind payload (next - at)) refused (seen_from at r) p ≡ read_seen found refused r p
-        by (Record kind next) p = let e : at + next - at ≡ next = omega arith in ap (found kind p) e
+        by (Ok r) p = let e : at + r.next - at ≡ r.next = omega arith in ap (found r.kind p) e
         by (Refused refusal) p = refl

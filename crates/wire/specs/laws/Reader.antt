@@ -1,17 +1,17 @@
 -- The two readers of a record: where what they read lies, with which numbers they refuse, and that an event is the same whatever follows it.
-use Rattle.std.specs.Prelude.{ℕ, ◌-◌, ◌≤◌, ◌<◌, ◌≡◌, refl, List, ◌++◌, length, drop}
+use Rattle.std.specs.Prelude.{ℕ, ◌-◌, ◌≤◌, ◌<◌, ◌≡◌, refl, List, ◌++◌, length, drop, Ok}
 use Rattle.std.proofs.Math.Path.{sym, ap}
 use Rattle.std.proofs.Common.{◌∙◌, arith}
 use Rattle.wire.specs.declared.event.Event.{Event}
-use Rattle.wire.specs.declared.event.NextEvent.{NextEvent}
-use Rattle.wire.specs.declared.event.NextEvent.TheVariants as event
+use Rattle.wire.specs.NextEvent.{NextEvent}
+use Rattle.wire.specs.NextEvent as event
 use Rattle.wire.specs.declared.kinds.Stream.TheVariants as stream
-use Rattle.wire.specs.declared.record.Seen.{Seen}
-use Rattle.wire.specs.declared.record.Seen.TheVariants as seen
+use Rattle.wire.specs.Seen.{Seen}
+use Rattle.wire.specs.Seen as seen
 use Rattle.wire.specs.declared.refusal.Refusal.{Refusal}
 use Rattle.wire.specs.declared.refusal.Refusal.TheVariants.{CutShort}
-use Rattle.wire.specs.declared.table_record.NextTableRecord.{NextTableRecord}
-use Rattle.wire.specs.declared.table_record.NextTableRecord.TheVariants as put
+use Rattle.wire.specs.NextTableRecord.{NextTableRecord}
+use Rattle.wire.specs.NextTableRecord as put
 use Rattle.wire.specs.Event.{event_found, next_event}
 use Rattle.wire.specs.Question.{Question, no_header, question_gives, WholeRecord, OneToThree}
 use Rattle.wire.specs.Record.{header_size, payload_at, read_seen}
@@ -21,11 +21,11 @@ use Rattle.wire.specs.Table.{table_record_of, table_record_found, next_table_rec
 
 -- an event is read from a whole record at the start, or refused with 1, 2 or 3; and so is a table record
 abbrev pub EventIn : List ℕ → NextEvent → Type 0
-EventIn s (event.Event e next) = WholeRecord s 0 next
+EventIn s (Ok r) = WholeRecord s 0 r.next
 EventIn s (event.Refused refusal) = OneToThree refusal
 
 abbrev pub TableRecordIn : List ℕ → NextTableRecord → Type 0
-TableRecordIn s (put.Record one next) = WholeRecord s 0 next
+TableRecordIn s (Ok r) = WholeRecord s 0 r.next
 TableRecordIn s (put.Refused refusal) = OneToThree refusal
 
 module _ (s : List ℕ) where

@@ -1,11 +1,11 @@
 -- What a reader makes of the record at the start of some bytes, in any stream; and that it is the same whatever follows the record.
-use Rattle.std.specs.Prelude.{ℕ, ◌+◌, ◌*◌, ◌-◌, ◌≤◌, ◌<◌, ◌≡◌, refl, List, ◌++◌, length, drop}
+use Rattle.std.specs.Prelude.{ℕ, ◌+◌, ◌*◌, ◌-◌, ◌≤◌, ◌<◌, ◌≡◌, refl, List, ◌++◌, length, drop, Ok}
 use Rattle.std.proofs.Common.{ap, ap₂, ◌∙◌, arith, length-append, length-drop}
 use Rattle.std.proofs.Math.ListN.{get_or-append}
 use Rattle.std.proofs.lemmas.List.{take-append-le, drop-append-le}
 use Rattle.wire.specs.declared.kinds.Stream.{Stream}
-use Rattle.wire.specs.declared.record.Seen.{Seen}
-use Rattle.wire.specs.declared.record.Seen.TheVariants.{Record, Refused}
+use Rattle.wire.specs.Seen.{Seen}
+use Rattle.wire.specs.Seen.{Record, Refused}
 use Rattle.wire.specs.declared.refusal.Refusal.{Refusal}
 use Rattle.wire.specs.Number.{le16}
 use Rattle.wire.specs.Record.{header_size, uncounted, length_at, kind_at, next_at, bytes_left, record_at, payload_of, payload_at}
@@ -44,10 +44,10 @@ module _ (a b : List ℕ) (at : ℕ) (four : at + header_size ≤ length a) wher
             ∙ ap₂ (λ (k n : ℕ). Record k (at + (n + uncounted))) kind_same length_same
 
     payload_same : (r : Seen) → SeenAt a at r → payload_of r (a ++ b) at ≡ payload_of r a at
-    payload_same (Record kind next) w =
+    payload_same (Ok r) w =
         rw (
           drop-append-le (at + header_size) a b four,
-          take-append-le (next - (at + header_size)) (drop (at + header_size) a) b (simp length-drop (omega arith)),
+          take-append-le (r.next - (at + header_size)) (drop (at + header_size) a) b (simp length-drop (omega arith)),
         )
     payload_same (Refused refusal) o = refl
 
@@ -65,7 +65,7 @@ module _ {A : Type 0} (found : ℕ → List ℕ → ℕ → A) (refused : Refusa
   read_case s P f g = go (record_at stream s 0) (seen_at stream s 0)
     where
       go : (r : Seen) → SeenAt s 0 r → P (read_seen found refused r (payload_at stream s 0))
-      go (Record kind next) w = f kind next (payload_at stream s 0) w
+      go (Ok r) w = f r.kind r.next (payload_at stream s 0) w
       go (Refused refusal) o = g refusal o
 
   -- it reads the same whatever follows the record,

@@ -5,4 +5,4 @@ use Rattle.std.proofs.Common.{◌≡◌}
 use Rattle.state.proofs.threads.make_owe.Given as goal
 
 abbrev pub invariant-loop-t : goal.invariant-loop-t
-invariant-loop-t l = Upto l.n (λ k. l.m ≡ owed_by l.core l.gang l.g k l.owing) l.t
+invariant-loop-t l = Upto l.table.sizes.threads (λ k. l.owe ≡ owed_by l.table.core.now l.table.gang.now l.g k l.owing) l.t

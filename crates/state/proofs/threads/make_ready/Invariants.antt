@@ -5,4 +5,4 @@ use Rattle.std.proofs.Common.{◌≡◌}
 use Rattle.state.proofs.threads.make_ready.Given as goal
 
 abbrev pub invariant-loop-t : goal.invariant-loop-t
-invariant-loop-t l = Upto l.n (λ k. l.state ≡ readied l.gang l.g k l.initial.state) l.t
+invariant-loop-t l = Upto l.table.sizes.threads (λ k. l.state ≡ readied l.table.gang.now l.g k l.initial.state) l.t

@@ -1,30 +1,21 @@
 -- `wire::kinds::length_of` meets its contract: it looks for the first pair of that kind.
-use Rattle.std.proofs.Common.{eq-eqb, ne_eqb, arith}
-use Rattle.wire.specs.Kinds.{lengths}
-use Rattle.wire.proofs.Lengths.{starts, finds, passes_by, finds_none}
+use Rattle.std.proofs.Common.{rules, tests, ap, ◌∙◌}
+use Rattle.std.proofs.lemmas.Iterator.{YieldsList-from_slice}
+use Rattle.std.proofs.lemmas.Iterator.Search.{find_from_yields_List}
+use Rattle.wire.specs.Kinds.{is_of_kind, lengths}
+use Rattle.wire.proofs.Lengths.{said_of, find_says}
 use Rattle.wire.proofs.kinds.length_of.Goals as goal
 
-pub loop-i-init : goal.loop-i-init
-loop-i-init c = starts _ _ _ _
-
-pub offset_bounds-lengths-i : goal.offset_bounds-lengths-i
-offset_bounds-lengths-i c = omega arith
-
-pub bounds-lengths-i : goal.bounds-lengths-i
-bounds-lengths-i c = omega arith
-
-pub returns-then-p-kind : goal.returns-then-p-kind
+pub returns-in-Some : goal.returns-in-Some
 unfolding lengths
-returns-then-p-kind c =
-    let l = c.loop-i in
-    finds _ _ _ lengths l.i l.invariant c.loop-i-test.true (eq-eqb _ _ c.if-p-kind.true)
+returns-in-Some c =
+    let p = is_of_kind c.args.kind in
+    let found = find_from_yields_List p _ _ c.find.result c.find.ensures.ran (YieldsList-from_slice lengths cc) (λ x b q k. search (rules, tests)) in
+    rw c.in-Some.is at (ap (said_of (λ q. q.len) 0) found ∙ find_says p (λ q. q.len) 0 lengths)
 
-pub loop-i-preserved : goal.loop-i-preserved
+pub returns-in-None : goal.returns-in-None
 unfolding lengths
-loop-i-preserved c =
-    let l = c.loop-i in
-    passes_by _ _ _ lengths l.i l.invariant c.loop-i-test.true (ne_eqb _ _ c.if-p-kind.false)
-
-pub returns : goal.returns
-unfolding lengths
-returns c = finds_none _ _ _ lengths c.loop-i.i c.loop-i.invariant c.loop-i-test.false
+returns-in-None c =
+    let p = is_of_kind c.args.kind in
+    let found = find_from_yields_List p _ _ c.find.result c.find.ensures.ran (YieldsList-from_slice lengths cc) (λ x b q k. search (rules, tests)) in
+    rw c.in-None.is at (ap (said_of (λ q. q.len) 0) found ∙ find_says p (λ q. q.len) 0 lengths)

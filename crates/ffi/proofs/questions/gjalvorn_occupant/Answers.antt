@@ -1,7 +1,0 @@
--- `gjalvorn_occupant` meets its contract: what it finds is what `System::occupant` finds.
-use Rattle.std.proofs.Common.{ap, ◌∙◌}
-use Rattle.ffi.specs.Calls.{found_in}
-use Rattle.ffi.proofs.questions.gjalvorn_occupant.Goals as goal
-
-pub returns : goal.returns
-returns c = c.finding_of.ensures ∙ ap found_in c.occupant.ensures

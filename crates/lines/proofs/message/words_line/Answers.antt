@@ -1,9 +1,0 @@
--- `words_line` meets its contract: the words, and then the end of the line.
-use Rattle.std.proofs.Common.{arith}
-use Rattle.lines.proofs.Joined.{joined_words}
-use Rattle.lines.proofs.message.words_line.Goals as goal
-
-pub returns : goal.returns
-returns c =
-    let a = c.args in
-    joined_words a.words.now (omega arith) c.put_words-at.ensures

@@ -1,7 +1,0 @@
--- `put_value` meets its contract: past the end nothing is stored, and nothing changes.
-use Rattle.std.proofs.Common.{sym}
-use lib.Seq.{set_out}
-use Rattle.lists.proofs.put_value.Goals as goal
-
-pub returns-else-i-values : goal.returns-else-i-values
-returns-else-i-values c = sym (set_out _ _ _ c.if-i-values.false)

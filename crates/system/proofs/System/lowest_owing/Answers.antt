@@ -1,7 +1,0 @@
--- `System::lowest_owing` meets its contract: the value is the one that the definition names.
-use Rattle.std.proofs.Common.{ap, ◌∙◌}
-use Rattle.system.specs.Questions.{about_all}
-use Rattle.system.proofs.System.lowest_owing.Goals as goal
-
-pub returns : goal.returns
-returns c = c.about_all.ensures ∙ ap (about_all _) c.first.ensures

@@ -1,0 +1,2 @@
+-- Sets of laws that the proofs of loops go by.
+pub mod Turns
