@@ -18,7 +18,8 @@ unfolding written_in
 room_for o l = rw (le-leb answer_size (length o) l)
 
 -- e is the event that was read, a its answer, s' the system after it, and o' what the writer left of the output
-pub turn_done : (s : System) (ev o : List ℕ) {e : Event} {n : ℕ} {s' : System} {a : Answer} {r : AnswerRecord} {o' : List ℕ} → found.Event e n ≡ next_event ev
+pub turn_done : (s : System) (ev o : List ℕ) {e : Event} {n : ℕ} {s' : System} {a : Answer} {r : AnswerRecord} {o' : List ℕ}
+    → found.Event e n ≡ next_event ev
     → answer_size ≤ length o → step_of s e ≡ reply_of s' a → r ≡ record_of a s'.lock.owing s'.lock.locked → o' ≡ put_over (answer_bytes r) o
     → Came (turn_of step_of s ev (length o)) o o' (batched_with s' (turns_of n answer_size (Ok tt)))
 unfolding put_over

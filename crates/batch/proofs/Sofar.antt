@@ -7,6 +7,9 @@ use borrow.Rule.Slice.PartMut.{put_mid}
 use Rattle.system.specs.Events.{step_of}
 use Rattle.system.specs.declared.System.{System}
 use Rattle.wire.specs.Answer.{answer_size}
+use Rattle.wire.specs.Event.{next_event}
+use Rattle.wire.specs.NextEvent as found
+use Rattle.wire.specs.declared.event.Event.{Event}
 use Rattle.wire.specs.declared.refusal.Refusal.{Refusal}
 use Rattle.wire.specs.laws.Reader.{event_whole}
 use Rattle.batch.specs.Turn.{Run, Came, wrote, written, output_after, stopped_with, answered, turn_of, batched_with, turns_of, no_turns, end_number}
@@ -70,7 +73,8 @@ module _ {ev o : List ℕ} {total : Run} {s : System} {at w : ℕ} {out : List �
   -- what a turn came to that was lent the events from their place on and the output from its place on
   abbrev pub Turn : List ℕ → Batched → Type 0
   Turn last b =
-      Came (turn_of step_of s (take (length ev - at) (drop at ev)) (length (take (length out - w) (drop w out)))) (take (length out - w) (drop w out)) last b
+      Came (turn_of step_of s (take (length ev - at) (drop at ev)) (length (take (length out - w) (drop w out))))
+      (take (length out - w) (drop w out)) last b
 
   its : {last : List ℕ} {b : Batched} → Turn last b → Came (turn_of step_of s (drop at ev) (length o - w)) (drop w o) last b
   its c = rw (take_rest ev at, left, length-drop w o) at c
@@ -91,44 +95,44 @@ module _ {ev o : List ℕ} {total : Run} {s : System} {at w : ℕ} {out : List �
           absurd (omega (arith, ap (λ (b : Batched). b.read) d.told))
 
   -- it answers the next event
+  record Went (last : List ℕ) (s' : System) (n : ℕ) : Type 0 where
+    e : Event
+    read : next_event (drop at ev) ≡ found.Event e n
+    room : answer_size ≤ length o - w
+    left_by : (step_of s e).system ≡ s'
+    output : last ≡ output_after (answered (step_of s e) n) (drop w o)
+
   module _ {last : List ℕ} {s' : System} {n : ℕ} (c : Turn last (batched_with s' (turns_of n answer_size (Ok tt)))) where
+    went : Went last s' n
+    went = by (turn_way step_of s (drop at ev) (length o - w)) (its c)
+      where
+        by : {t : Run} → Turned step_of s (drop at ev) (length o - w) t → Came t (drop w o) last (batched_with s' (turns_of n answer_size (Ok tt)))
+            → Went last s' n
+        by (stops x) d = absurd (omega (arith, stops_some x, ap (λ (b : Batched). b.number) d.told))
+        by (answers {e = e} g l) d =
+            let same = sym (ap (λ (b : Batched). b.read) d.told) in
+            record { e = e; read = rw same at g; room = l; left_by = sym (ap (λ (b : Batched). b.system) d.told); output = d.output }
+
     -- whose record lies within the events, and is not empty
     pub next_inside : (at + n ≤ length ev) × (0 < n)
-    next_inside = by (turn_way step_of s (drop at ev) (length o - w)) (its c)
-      where
-        by : {t : Run} → Turned step_of s (drop at ev) (length o - w) t → Came t (drop w o) last (batched_with s' (turns_of n answer_size (Ok tt)))
-            → (at + n ≤ length ev) × (0 < n)
-        by (stops x) d = absurd (omega (arith, stops_some x, ap (λ (b : Batched). b.number) d.told))
-        by (answers g l) d =
-            let t = event_whole (drop at ev) g in
-            let same = ap (λ (b : Batched). b.read) d.told in
-            (omega (arith, length-drop at ev, f.inside, t.inside, same), omega (arith, same))
+    next_inside = let t = event_whole (drop at ev) went.read in (omega (arith, length-drop at ev, f.inside, t.inside), omega arith)
 
+    -- and whose answer has room
     pub room_after : w + answer_size ≤ length o
-    room_after = by (turn_way step_of s (drop at ev) (length o - w)) (its c)
-      where
-        by : {t : Run} → Turned step_of s (drop at ev) (length o - w) t → Came t (drop w o) last (batched_with s' (turns_of n answer_size (Ok tt)))
-            → w + answer_size ≤ length o
-        by (stops x) d = absurd (omega (arith, stops_some x, ap (λ (b : Batched). b.number) d.told))
-        by (answers g l) d = omega (arith, f.fits)
+    room_after = omega (arith, f.fits, went.room)
 
     pub goes_on : Sofar ev o total s' (at + n) (w + answer_size) (put_mid w (length out - w) out last)
-    goes_on = by (turn_way step_of s (drop at ev) (length o - w)) (its c)
-      where
-        by : {t : Run} → Turned step_of s (drop at ev) (length o - w) t → Came t (drop w o) last (batched_with s' (turns_of n answer_size (Ok tt)))
-            → Sofar ev o total s' (at + n) (w + answer_size) (put_mid w (length out - w) out last)
-        by (stops x) d = absurd (omega (arith, stops_some x, ap (λ (b : Batched). b.number) d.told))
-        by (answers {e = e} {n = m} g l) d =
-            let q = answered (step_of s e) m in
-            rw (ap (λ (b : Batched). b.system) d.told, ap (λ (b : Batched). b.read) d.told)
-            (record {
-              done = and_then f.done q;
-              reads = rw f.reads;
-              writes = written_then f.done q ∙ rw (f.writes, bytes_length q.answers);
-              inside = let t = event_whole (drop at ev) g in omega (arith, length-drop at ev, f.inside, t.inside);
-              fits = omega (arith, f.fits);
-              holds = back d.output ∙ rw (← f.writes) (output_then f.done q o);
-              rest = λ p y.
-                  f.rest (and_then q p) (goes g l (rw (← drop-drop m at ev, sub-add-eq (length o) w answer_size) at y))
-                  ∙ sym (then_assoc f.done q p);
-            })
+    goes_on =
+        let q = answered (step_of s went.e) n in
+        record {
+          done = and_then f.done q;
+          reads = rw f.reads;
+          writes = written_then f.done q ∙ rw (f.writes, bytes_length q.answers);
+          inside = next_inside.0;
+          fits = room_after;
+          holds = back went.output ∙ ap (λ (k : ℕ). wrote f.done ++ output_after q (drop k o)) (sym f.writes) ∙ output_then f.done q o;
+          rest = λ p y.
+              f.rest (and_then q p)
+              (goes went.read went.room (rw (← went.left_by, ← drop-drop n at ev, sub-add-eq (length o) w answer_size) at y))
+              ∙ sym (then_assoc f.done q p);
+        }

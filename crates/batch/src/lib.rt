@@ -12,8 +12,9 @@ use wire::refusal::Refusal;
 mod turns;
 
 // What a batch comes to: the system, the bytes read and written, and the number it stopped with, 0 at the end of the events.
+// The layout is that of gjalvorn_batched in the C interface.
 #[repr(C)]
-#[derive(Clone, Copy)]
+#[derive(Clone, Copy, PartialEq, Eq, Debug)]
 pub struct Batched {
     pub system: System,
     pub read: usize,
@@ -27,7 +28,7 @@ pub fn batch(mut system: System, events: &[u8], out: &mut [u8]) -> Batched
     ensures { Came (batch_of system events.now (length out.old)) out.old out.new result }
 {
     if !system.well_formed() {
-        return told(system, Turns::none(Refusal::NotWellFormed));
+        return told(system, Turns::refused(Refusal::NotWellFormed));
     }
     let turns = take_turns(&mut system, events, out);
     told(system, turns)

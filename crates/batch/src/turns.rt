@@ -11,7 +11,7 @@ use wire::of_record::Next;
 use wire::refusal::Refusal;
 
 // What the turns come to, beside the system: the bytes read and written, and how they end, at the end of the events or refused.
-#[derive(Clone, Copy)]
+#[derive(Clone, Copy, PartialEq, Eq, Debug)]
 pub(crate) struct Turns {
     pub read: usize,
     pub written: usize,
@@ -19,8 +19,8 @@ pub(crate) struct Turns {
 }
 
 impl Turns {
-    // Nothing is read and nothing written.
-    pub(crate) fn none(refusal: Refusal) -> Turns
+    // Refused before the first turn: nothing is read and nothing written.
+    pub(crate) fn refused(refusal: Refusal) -> Turns
         ensures { result ≡ no_turns refusal }
     {
         Turns {
@@ -31,7 +31,8 @@ impl Turns {
     }
 }
 
-// Turn after turn, to the end of the events or a refusal. A record's length stands in it, so no iterator of the library goes over records.
+// Turn after turn, to the end of the events or a refusal. A record's length stands in it, so no iterator of the library goes over records,
+// nor over the output, whose end is asked about only after the record (13).
 pub(crate) fn take_turns(system: &mut System, events: &[u8], out: &mut [u8]) -> Turns
     ensures { Came (run_of step_of (length events.now) system.old events.now (length out.old))
         out.old out.new (batched_with system.new result) }

@@ -6,7 +6,7 @@ use crate::text::place_of;
 use std::io;
 use system::System;
 
-// Room for more answers than a case has events.
+// Room for more answers than a case has events. No heap: a buffer of this size, and how much of it is filled.
 const ROOM: usize = 720;
 
 // No case gives as much room as this.
@@ -17,8 +17,7 @@ fn started(records: &[u8]) -> System {
     let slash = place_of(records, b'/');
     let mut bytes = [0u8; MOST_BYTES];
     let n = crate::numbers::bytes(&records[..slash], &mut bytes);
-    let read = reading::read_system(&bytes[..n]);
-    read.system
+    reading::read_system(&bytes[..n]).system
 }
 
 // A batch of a case's events into the output given.
@@ -37,10 +36,8 @@ fn run(
 
 // The gang has taken 4,294,967,294 numbers, which no bytes lead to: it takes one more, and then none.
 fn last_number(mut s: System) -> System {
-    let mut ledger = s.ledger;
-    ledger.number[0] = 4294967294;
-    ledger.skipped[0] = 4294967294;
-    s.ledger = ledger;
+    s.ledger.number[0] = 4294967294;
+    s.ledger.skipped[0] = 4294967294;
     s
 }
 
@@ -51,6 +48,7 @@ fn kept_too_high(mut s: System) -> System {
 }
 
 // The system that a case starts from: its table's, or one that no bytes lead to.
+// The letter of the case's text: an enum would be read from it by the same match.
 fn system_of(does: u8, records: &[u8]) -> System {
     let s = started(records);
     match does {

@@ -13,12 +13,14 @@ mod text;
 use std::io;
 
 // More than the cases have.
+// No heap: a buffer of this size, and how much of it is filled.
 const MOST_TEXT: usize = 32768;
 
-// More than the records of a case have.
+// More than the records of a case have. No heap: a buffer of this size, and how much of it is filled.
 const MOST_BYTES: usize = 800;
 
 // Does what the letter says. There is none where a line has no colon: it is a comment.
+// A letter is matched where it is read: an enum of them would list each a second time.
 fn done(rt: &impl Print, name: &[u8], what: &[u8]) -> io::Result<()> {
     let does = text::letter(what);
     match does {

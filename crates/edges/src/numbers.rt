@@ -49,11 +49,13 @@ pub(crate) fn bytes(text: &[u8], out: &mut [u8]) -> usize
 }
 
 // The same as a byte.
+// `as` must lose nothing: so the remainder.
 pub(crate) fn byte(text: &[u8], others: usize) -> u8 {
     (number(text, others) % 256) as u8
 }
 
 // The same in four bytes.
+// `as` must lose nothing: so the remainder.
 pub(crate) fn word(text: &[u8], others: usize) -> u32 {
     (number(text, others) % 4294967296) as u32
 }

@@ -7,6 +7,7 @@ use crate::text::{letter, place_of};
 use std::io;
 
 // What is done is said by the first letter after the comma.
+// The letter of the case's text: an enum would be read from it by the same match.
 pub(crate) fn case(rt: &impl Print, name: &[u8], what: &[u8]) -> io::Result<()> {
     let comma = place_of(what, b',');
     let does = letter(&what[comma..]);

@@ -11,16 +11,18 @@ use wire::kinds::{FINISH, RELEASE, SERVE, TICK, TRAFFIC, WAIT, WAKE};
 use wire::refusal::Refusal;
 
 // The system after an event, and the fields of its ANSWER.
+// The layout is that of gjalvorn_answered in the C interface.
 #[repr(C)]
-#[derive(Clone, Copy)]
+#[derive(Clone, Copy, PartialEq, Eq, Debug)]
 pub struct Answered {
     pub system: System,
     pub answer: AnswerRecord,
 }
 
 // An event by its kind: `number` is its gang, thread or core, and only TRAFFIC has transactions.
+// The layout is that of gjalvorn_event in the C interface.
 #[repr(C)]
-#[derive(Clone, Copy)]
+#[derive(Clone, Copy, PartialEq, Eq, Debug)]
 pub struct EventValue {
     pub kind: u16,
     pub number: u8,
@@ -64,6 +66,7 @@ impl From<Reply> for Answered {
 }
 
 // RELEASE a gang.
+// This and each one below is a call of the C interface.
 #[unsafe(no_mangle)]
 pub extern "C" fn gjalvorn_release(system: System, gang: u8) -> Answered
     ensures { result ≡ answered_of (checked system (release_step system gang)) }

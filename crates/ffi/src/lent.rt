@@ -15,8 +15,9 @@ use wire::event::Event;
 use wire::refusal::Refusal;
 
 // What an event comes to, beside the parts that it was lent: the holder and the blocked cores, and its ANSWER, with the owing and the locked ones.
+// The layout is that of gjalvorn_outcome in the C interface.
 #[repr(C)]
-#[derive(Clone, Copy)]
+#[derive(Clone, Copy, PartialEq, Eq, Debug)]
 pub struct Outcome {
     pub holder: u8,
     pub blocked: u32,
@@ -37,6 +38,7 @@ impl Outcome {
 }
 
 // Any event, as `gjalvorn_apply` does it, on the parts of a system that are lent.
+// Its parameters are those of the C interface, which hands over each part by itself.
 #[tactic(auto, unfolding(system::specs::Parts::system_of))]
 #[unsafe(no_mangle)]
 pub extern "C" fn gjalvorn_apply_lent<'a>(

@@ -10,8 +10,9 @@ use system::System;
 use wire::refusal::Refusal;
 
 // A question's refusal number, 0 where it has a value, and that value, 0 where it is refused.
+// The layout is that of gjalvorn_found in the C interface.
 #[repr(C)]
-#[derive(Clone, Copy)]
+#[derive(Clone, Copy, PartialEq, Eq, Debug)]
 pub struct Found {
     pub refusal: u8,
     pub value: u32,
@@ -32,6 +33,7 @@ impl From<Result<u32, Refusal>> for Found {
 }
 
 // A core's occupant, or 255.
+// This and each one below is a call of the C interface.
 #[unsafe(no_mangle)]
 pub extern "C" fn gjalvorn_occupant(system: System, core: u8) -> Found
     ensures { result ≡ found_in (occupant_found system core) }
@@ -97,8 +99,9 @@ pub extern "C" fn gjalvorn_owing_count(system: System) -> Found
 
 // Why a thread isn't running: the refusal number, 0 where there is a reason; the reason's number; and the thread or gang that it names,
 // 255 where it names none. Where the question is refused the last two are 0.
+// The layout is that of gjalvorn_reason_found in the C interface.
 #[repr(C)]
-#[derive(Clone, Copy)]
+#[derive(Clone, Copy, PartialEq, Eq, Debug)]
 pub struct ReasonFound {
     pub refusal: u8,
     pub reason: u8,

@@ -17,7 +17,7 @@ pub const PLACES: u8 = 32;
 // For each gang: the number of its last release, how many releases were served and skipped, and its current job's number.
 // Four lists, and not one list of records: the layout is that of gjalvorn_ledger in the C interface.
 #[repr(C)]
-#[derive(Clone, Copy)]
+#[derive(Clone, Copy, PartialEq, Eq, Debug)]
 pub struct Ledger {
     pub number: [u32; 32],
     pub served: [u32; 32],
@@ -82,6 +82,7 @@ impl<'a> LedgerRef<'a> {
 }
 
 // A ledger's lists, lent for a release.
+// That each reference stays where it was is a clause of each method: it is said of before and after, which no invariant of a type speaks of.
 #[derive(Drop)]
 pub struct LedgerMut<'a> {
     pub number: &'a mut [u32; 32],

@@ -1,3 +1,3 @@
--- Laws that the proofs of this crate's functions cite.
-pub mod Digits
 pub mod Joined
+pub mod Some
+pub mod Words

@@ -19,7 +19,8 @@ unfolding numeral
 numeral_size base short zero n = omega arith
 numeral_size base short (suc places) n = go (short && ltb n base) (numeral_size base short places (n / base))
   where
-    go : (t : Bool) → length (numeral base short places (n / base)) ≤ places → length (cond t (glyph_of n ∷ []) (numeral base short places (n / base) ++ (glyph_of (n % base) ∷ []))) ≤ suc places
+    go : (t : Bool) → length (numeral base short places (n / base)) ≤ places
+        → length (cond t (glyph_of n ∷ []) (numeral base short places (n / base) ++ (glyph_of (n % base) ∷ []))) ≤ suc places
     go true rest = omega arith
     go false rest = simp length-append (omega arith)
 

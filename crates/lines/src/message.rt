@@ -1,39 +1,45 @@
 // Document 01, "The listing": the text of the message lines.
-ghost use Rattle.std.specs.Prelude.{Some};
 ghost use Rattle.lines.specs.Message.{words_line_of, refusal_line_of};
 
-use crate::words::Words;
-use std::fmt;
+use crate::thread::{MOST_WORDS, put_words};
+use crate::{DECIMAL, LINE_FEED, PLACES_8, PLACES_32, ROOM, TextLine, put_number};
+
+// The bytes of " at ", which stands between a refusal's number and its place.
+const AT_SIZE: usize = 4;
 
 // The line of words alone.
-#[derive(Clone, Copy)]
+#[derive(Clone, Copy, PartialEq, Eq, Debug)]
 pub struct WordsLine<'a> {
     pub words: &'a [u8],
 }
 
-impl fmt::Display for WordsLine<'_> {
-    ghost output = { λ line. Some (words_line_of line.words.now) };
+impl TextLine for WordsLine<'_> {
+    ghost text = { λ line. words_line_of line.words.now };
 
-    fn fmt<W: fmt::Write>(&self, f: &mut fmt::Formatter<W>) -> fmt::Result {
-        let words = Words(self.words);
-        writeln!(f, "{words}")
+    fn put(&self, out: &mut [u8; ROOM]) -> usize {
+        let end = put_words(out, 0, self.words, MOST_WORDS);
+        out[end] = LINE_FEED;
+        end + 1
     }
 }
 
-// The line of words, a refusal's number and its place.
-#[derive(Clone, Copy)]
+// The line of words, a refusal's number as it is printed, and its place.
+#[derive(Clone, Copy, PartialEq, Eq, Debug)]
 pub struct RefusalLine<'a> {
     pub words: &'a [u8],
     pub number: u8,
     pub place: u32,
 }
 
-impl fmt::Display for RefusalLine<'_> {
-    ghost output = { λ line. Some (refusal_line_of line.words.now line.number line.place) };
+impl TextLine for RefusalLine<'_> {
+    ghost text = { λ line. refusal_line_of line.words.now line.number line.place };
 
-    fn fmt<W: fmt::Write>(&self, f: &mut fmt::Formatter<W>) -> fmt::Result {
-        let words = Words(self.words);
-        let (number, place) = (self.number, self.place);
-        writeln!(f, "{words}{number} at {place}")
+    fn put(&self, out: &mut [u8; ROOM]) -> usize {
+        let mut at = put_words(out, 0, self.words, MOST_WORDS);
+        at = put_number(out, at, self.number as u32, DECIMAL, PLACES_8);
+        at = put_words(out, at, b" at ", AT_SIZE);
+        at = put_number(out, at, self.place, DECIMAL, PLACES_32);
+        out[at] = LINE_FEED;
+        at + 1
     }
 }

@@ -28,7 +28,9 @@ module _ (print : Print) (n m : ℕ) (rest : Enough print n m) (s : System) (pos
   seen_enough (Ok seen) f =
       let w : WholeRecord bytes 0 seen.next = event_whole bytes f in
       ap (λ (l : List ℕ). print position seen.found (apply_of s seen.found) ++ l)
-      (rest (apply_of s seen.found).system (position + 1) (at + seen.next) (drop seen.next bytes) (simp length-drop (omega arith)) (simp length-drop (omega arith)))
+      (rest (apply_of s seen.found).system (position + 1) (at + seen.next) (drop seen.next bytes)
+      (simp length-drop (omega arith))
+      (simp length-drop (omega arith)))
   seen_enough (Err refusal) f = refl
 
 pub events_enough : (print : Print) (n m : ℕ) → Enough print n m

@@ -89,10 +89,12 @@ told_text (Err refusal) = []
 
 -- so what list_event gives is what the listing comes to, in numbers and in text
 pub event_listed_told : (s : System) (position : ℕ) (bytes : List ℕ)
-    → (told_listed s (event_listed s position bytes) ≡ listed_of s position bytes) × (told_text (event_listed s position bytes) ≡ text_of s position bytes)
+    → (told_listed s (event_listed s position bytes) ≡ listed_of s position bytes)
+    × (told_text (event_listed s position bytes) ≡ text_of s position bytes)
 unfolding event_listed listed_of text_of
 event_listed_told s position bytes = go (next_event bytes)
   where
-    go : (x : NextEvent) → (told_listed s (event_seen s position x) ≡ listed_seen s position x) × (told_text (event_seen s position x) ≡ text_seen s position x)
+    go : (x : NextEvent) → (told_listed s (event_seen s position x) ≡ listed_seen s position x)
+        × (told_text (event_seen s position x) ≡ text_seen s position x)
     go (Ok seen) = (refl, refl)
     go (Err refusal) = (refl, refl)

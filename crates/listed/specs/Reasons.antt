@@ -50,6 +50,21 @@ abbrev pub line_text : Result ThreadLine Refusal → Result (List ℕ) Refusal
 line_text (Ok line) = Ok (thread_line_of line.position line.thread line.words.now line.which)
 line_text (Err refusal) = Err refusal
 
+-- a line by its parts: position, thread, words and which
+abbrev pub Parts : Type 0
+Parts = ℕ × ℕ × List ℕ × ℕ
+
+abbrev pub parts_seen : ℕ → ℕ → Result Reason Refusal → Result Parts Refusal
+parts_seen position t (Ok r) = Ok (position, t, words_of r, reason_which r)
+parts_seen position t (Err refusal) = Err refusal
+
+unfoldable pub reason_parts : System → ℕ → ℕ → Result Parts Refusal
+reason_parts s position t = parts_seen position t (why_of s t).explanation
+
+abbrev pub line_parts : Result ThreadLine Refusal → Result Parts Refusal
+line_parts (Ok line) = Ok (line.position, line.thread, line.words.now, line.which)
+line_parts (Err refusal) = Err refusal
+
 -- so what list_reason gives prints thread t's line, and nothing where the question is refused
 pub reason_listed_told : (s : System) (position t : ℕ) → result_unwrap_or (reason_listed s position t) [] ≡ reason_text s position t
 unfolding reason_listed reason_text

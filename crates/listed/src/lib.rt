@@ -29,11 +29,12 @@ const KIND_AT: usize = 2;
 // The most bytes of an input that is not too long.
 pub const MOST_BYTES: usize = 32768;
 
-// Where the events start, or the length of the bytes where none do: past every table record.
+// Where the events start, or the length of the bytes where none do: past every table record. A place and no Option: then all is table.
 pub fn events_start(bytes: &[u8]) -> usize
     ensures { result ≡ events_start bytes.now }
 {
     let mut at = 0;
+    // No `for`: the next place is a whole record further, and what the record is says how long it is.
     while let Ok(Record { next, .. }) = record_at(Stream::Table, bytes, at) {
         at = next;
     }
@@ -57,7 +58,7 @@ fn split_at(bytes: &[u8], at: usize) -> usize
 }
 
 // What listing an event comes to: the system after it, how many bytes its record takes, and its line.
-#[derive(Clone, Copy)]
+#[derive(Clone, Copy, PartialEq, Eq, Debug)]
 pub struct Listed {
     pub system: System,
     pub size: usize,

@@ -1,6 +1,6 @@
 // Document 02, K3: the line that one thread prints after an event, in words that a planner developer understands.
 ghost use Rattle.std.specs.Prelude.{◌≡◌};
-ghost use Rattle.listed.specs.Reasons.{words_of, line_text, reason_listed};
+ghost use Rattle.listed.specs.Reasons.{words_of, line_text, reason_listed, line_parts, reason_parts};
 
 use lines::ThreadLine;
 use reason::Reason;
@@ -8,13 +8,14 @@ use system::System;
 use wire::refusal::Refusal;
 
 // Why a thread isn't running, as its line; a thread that is not there is refused, and prints nothing.
-#[tactic(auto, unfolding(crate::specs::Reasons::reason_listed))]
+#[tactic(auto, unfolding(crate::specs::Reasons::reason_listed, crate::specs::Reasons::reason_parts))]
 pub fn list_reason(
     system: &System,
     position: u32,
     thread: u8,
 ) -> Result<ThreadLine<'static>, Refusal>
-    ensures { line_text result ≡ reason_listed system.now position thread }
+    ensures parts { line_parts result ≡ reason_parts system.now position thread }
+    ensures text { line_text result ≡ reason_listed system.now position thread }
 {
     let reason = reason::why(system, thread)?;
     Ok(ThreadLine {

@@ -21,7 +21,7 @@ impl Number for u8 {
     ghost unused = { 0 };
 
     fn unused() -> u8 {
-        0
+        0u8
     }
 }
 
@@ -29,7 +29,7 @@ impl Number for u32 {
     ghost unused = { 0 };
 
     fn unused() -> u32 {
-        0
+        0u32
     }
 }
 

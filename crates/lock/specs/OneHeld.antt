@@ -1,5 +1,5 @@
 -- A promise on `lock_of r o` or `lock_now l` allows one holder with its core sets, and one list of occupants: those of `Lock::held`,
--- `LockMut::serve` and `LockMut::owe`.
+-- `Held::owe`, `LockMut::serve` and `LockMut::owe`.
 use Rattle.std.specs.Prelude.{ℕ, List, ◌≡◌}
 use Rattle.std.proofs.Common.{sym, ◌∙◌}
 use Rattle.lock.specs.declared.Held.{Held}

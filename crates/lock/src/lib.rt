@@ -2,7 +2,7 @@
 // is handed in.
 #![tactic(auto)]
 
-ghost use Rattle.std.specs.Prelude.{◌≡◌, ◌<◌, ℕ};
+ghost use Rattle.std.specs.Prelude.{◌≡◌, ◌<◌, List, ℕ};
 ghost use Rattle.lock.specs.Lent.{lock_seen, lock_now, SamePlaces};
 ghost use Rattle.lock.specs.Serve.{free_lock, lock_of, owe_of, unmarked_of, vacated_of, freed_of, settled_of, left_of};
 ghost use Rattle.lock.specs.Serve.{locked_for, displaced_of, blocked_of, claimed_of, admitted_of, serve_of};
@@ -13,7 +13,7 @@ use lists::put;
 
 // Who holds the lock, which cores are locked, blocked and owing, and each core's occupant.
 #[repr(C)]
-#[derive(Clone, Copy)]
+#[derive(Clone, Copy, PartialEq, Eq, Debug)]
 pub struct Lock {
     pub holder: u8,
     pub locked: u32,
@@ -25,7 +25,7 @@ pub struct Lock {
 // A lock but for the occupants: what an event takes and hands back, while the occupants are lent. The C interface has both structs:
 // gjalvorn_lock and gjalvorn_held.
 #[repr(C)]
-#[derive(Clone, Copy)]
+#[derive(Clone, Copy, PartialEq, Eq, Debug)]
 pub struct Held {
     pub holder: u8,
     pub locked: u32,
@@ -83,6 +83,14 @@ impl Held {
             occupant,
         }
     }
+
+    // Core c owes.
+    pub fn owe(mut self, c: u8) -> Held
+        ensures { (o : List ℕ) → lock_of result o ≡ owe_of (lock_of self o) c }
+    {
+        self.owing = coreset::set(self.owing, c);
+        self
+    }
 }
 
 // What the lock is held against: how many cores, threads and gangs there are, and each thread's core and gang.
@@ -113,6 +121,7 @@ struct First {
 }
 
 // A lock whose occupants are lent for an event.
+// That each reference stays where it was is a clause of each method: it is said of before and after, which no invariant of a type speaks of.
 #[derive(Drop)]
 pub struct LockMut<'a> {
     pub held: Held,
@@ -121,6 +130,7 @@ pub struct LockMut<'a> {
 
 impl<'a> LockMut<'a> {
     // SERVE core c, where t is its first ready thread or NONE, g that thread's gang, ahead whether g is ahead of the holder.
+    // NONE and no Option: it is stored as an occupant, which the C interface has as 255 for none.
     #[tactic(auto, unfolding(crate::specs::Serve::serve_of, crate::specs::Serve::serve_by))]
     pub fn serve(&mut self, c: u8, t: u8, g: u8, ahead: bool)
         ensures served { lock_now self.new ≡ serve_of (lock_now self.old) c t g ahead }
@@ -143,7 +153,7 @@ impl<'a> LockMut<'a> {
         ensures owed { lock_now self.new ≡ owe_of (lock_now self.old) c }
         ensures places { SamePlaces self.old self.new }
     {
-        self.held.owing = coreset::set(self.held.owing, c);
+        self.held = self.held.owe(c);
     }
 
     // Step (a): c no longer owes and is no longer blocked.

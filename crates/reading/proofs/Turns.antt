@@ -1,5 +1,6 @@
 -- A turn of the loop, and the end, by what the reader of a record, the rules on it and the rules at the end give there.
-use Rattle.std.proofs.Common.{ℕ, ◌-◌, ◌+◌, ◌<◌, ◌≤◌, List, length, take, drop, ◌≡◌, refl, sym, ap, ◌∙◌, arith, length-drop, take_all, Ok, Err}
+use Rattle.std.proofs.Common.{ℕ, ◌-◌, ◌+◌, ◌<◌, ◌≤◌, List, length, take, drop, ◌≡◌, refl, sym, ap, ◌∙◌, arith, length-drop, take_all, Result, Ok, Err}
+use Rattle.std.specs.Result.{MatchResult, IsErrAnd}
 use Rattle.table.specs.declared.Table.{Table}
 use Rattle.wire.specs.NextTableRecord.{NextTableRecord}
 use Rattle.wire.specs.Question.{WholeRecord}
@@ -9,11 +10,12 @@ use Rattle.wire.specs.declared.refusal.Refusal.{Refusal}
 use Rattle.wire.specs.declared.table_record.TableRecord.{TableRecord}
 use Rattle.reading.specs.declared.TableRefused.{TableRefused}
 use Rattle.reading.specs.Ending.{ending}
-use Rattle.reading.specs.Reading.{told, told_of, reading_of}
+use Rattle.reading.specs.Reading.{told, told_of, read_of, reading_of}
 use Rattle.reading.specs.Taken.{taken_of, record_refused, record_taken}
 use Rattle.reading.specs.Turn.{TableTurn, table_turn}
 use Rattle.reading.specs.Verdict.{Verdict, Accepted}
 use Rattle.reading.specs.laws.Reading.{ended_by}
+use Rattle.reading.proofs.Mapped.{was_err, was_ok}
 use Rattle.reading.specs.laws.Sofar.{Sofar, ends, turn, read, unread, stops, takes, goes}
 
 -- a refusal at a place, as the reader gives it
@@ -58,3 +60,10 @@ module _ {d : ℕ} {s : List ℕ} {b : Table} {at : ℕ} (f : Sofar d s b at) wh
 
     pub whole_told : v ≡ Accepted → told_of s (Ok b) ≡ reading_of d s
     whole_told w = rw w at ended
+
+  -- the end, where m is what `map_err` makes of the verdict on it
+  pub finished : length s ≤ at → {v : Verdict} → v ≡ ending b → (m : Result Unit TableRefused) (Q : Refusal → TableRefused → Type 0)
+      → MatchResult v (λ x. m ≡ Ok x) (λ e. IsErrAnd m (Q e)) → ((e : Refusal) (x : TableRefused) → Q e x → x ≡ refused_at e (length s))
+      → told_of s (read_of b m) ≡ reading_of d s
+  finished l end (Ok x) Q h made = whole_told l end (was_ok _ _ Q x h refl)
+  finished l end (Err x) Q h made = let w = was_err _ _ Q x h refl in ended_told l end w.was (made _ _ w.made)

@@ -29,6 +29,11 @@ abbrev pub told_of : List ℕ → Result Table TableRefused → Reading
 told_of s (Ok b) = told Accepted b (length s)
 told_of s (Err e) = told (Refused e.refusal) empty_table e.place
 
+-- what a reader gives that reads into a table: b is the table then
+abbrev pub read_of : Table → Result Unit TableRefused → Result Table TableRefused
+read_of b (Ok done) = Ok b
+read_of b (Err e) = Err e
+
 -- the reading where a verdict is refused, and where it is accepted
 abbrev pub on_verdict : Verdict → Reading → Reading → Reading
 on_verdict (Refused refusal) stop go = stop

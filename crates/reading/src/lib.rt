@@ -2,7 +2,8 @@
 #![tactic(auto)]
 
 ghost use Rattle.std.specs.Prelude.{◌≡◌};
-ghost use Rattle.reading.specs.Reading.{default_budget, told_of, reading_of};
+ghost use Rattle.table.specs.Rules.{empty_table};
+ghost use Rattle.reading.specs.Reading.{default_budget, told_of, read_of, reading_of};
 ghost use Rattle.reading.specs.SystemRead.{system_read};
 
 use system::System;
@@ -31,13 +32,16 @@ pub struct TableRefused {
 pub fn read_table(bytes: &[u8]) -> Result<Table, TableRefused>
     ensures { told_of bytes.now result ≡ reading_of default_budget bytes.now }
 {
-    read_with(DEFAULT_BUDGET, bytes)
+    let mut table = Table::empty();
+    read_into(&mut table, DEFAULT_BUDGET, bytes)?;
+    Ok(table)
 }
 
 // What reading comes to, as a system. Accepted: a fresh one of the table, 0 and the length of the bytes.
 // Refused: the empty system, the refusal's number and the place.
+// The layout is that of gjalvorn_read in the C interface.
 #[repr(C)]
-#[derive(Clone, Copy)]
+#[derive(Clone, Copy, PartialEq, Eq, Debug)]
 pub struct SystemRead {
     pub system: System,
     pub number: u8,
@@ -48,36 +52,37 @@ pub struct SystemRead {
 pub fn read_system(bytes: &[u8]) -> SystemRead
     ensures { result ≡ system_read default_budget bytes.now }
 {
-    match read_table(bytes) {
-        Ok(table) => SystemRead {
-            system: System::fresh(table),
-            number: 0,
-            place: bytes.len(),
-        },
-        Err(refused) => SystemRead {
-            system: System::empty(),
-            number: u8::from(refused.refusal),
-            place: refused.place,
-        },
+    let mut table = Table::empty();
+    let (number, place) = match read_into(&mut table, DEFAULT_BUDGET, bytes) {
+        Ok(()) => (0, bytes.len()),
+        Err(refused) => {
+            table = Table::empty();
+            (u8::from(refused.refusal), refused.place)
+        }
+    };
+    SystemRead {
+        system: System::fresh(table),
+        number,
+        place,
     }
 }
 
-// The records from the first byte on, each taken into the table where it lies; then the table's end.
-fn read_with(default: u32, bytes: &[u8]) -> Result<Table, TableRefused>
-    ensures { told_of bytes.now result ≡ reading_of default bytes.now }
+// The records from the first byte on, each taken into an empty table where it lies; then the table's end.
+// The table is lent: one that comes back in the result is moved on its way, and misses the bar of speed for a small table.
+fn read_into(table: &mut Table, default: u32, bytes: &[u8]) -> Result<(), TableRefused>
+    requires { table.old ≡ empty_table }
+    ensures { told_of bytes.now (read_of table.new result) ≡ reading_of default bytes.now }
 {
-    let mut table = Table::empty();
     let mut at: usize = 0;
     // No `for`: the next place is a whole record further, and what the record is says how long it is.
     while at < bytes.len() {
         let here = |refusal| TableRefused { refusal, place: at };
         let one = next::<TableRecord>(&bytes[at..]).map_err(here)?;
-        rules::take(&mut table, default, one.found).map_err(here)?;
+        rules::take(table, default, one.found).map_err(here)?;
         at += one.next;
     }
-    ending::ending(&table).map_err(|refusal| TableRefused {
+    ending::ending(table).map_err(|refusal| TableRefused {
         refusal,
         place: bytes.len(),
-    })?;
-    Ok(table)
+    })
 }

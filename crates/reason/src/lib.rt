@@ -44,6 +44,7 @@ impl From<Reason> for u8 {
 
 impl Reason {
     // The thread or gang that a reason names, or NONE.
+    // A number, as gjalvorn_why and the printed line have it.
     pub fn which(self) -> u8
         ensures { result ≡ reason_which self }
     {

@@ -2,48 +2,70 @@
 // A read or a write that fails ends the program with its error.
 #![tactic(auto)]
 
-ghost use Rattle.std.specs.Prelude.{◌≤◌, length};
+ghost use Rattle.std.specs.Prelude.{◌≤◌, length, List, ℕ, OnOk};
+ghost use Rattle.std.specs.Io.KnownBytes.{Appends};
 ghost use Rattle.listed.specs.Output.{most_bytes};
+ghost use Rattle.listed.specs.declared.Listed.{Listed};
 
+use lines::{ROOM, TextLine};
 use listed::{Listed, MOST_BYTES};
 use std::io;
+use std::io::Write;
 use system::System;
 
-// One byte more than an input may have, to notice an input that is too long.
+// One byte more than an input may have, to notice an input that is too long. No heap: a buffer of this size, and how much of it is filled.
 const BUFFER: usize = MOST_BYTES + 1;
 
 // What a program prints after an event: of the system after it and of its line.
 pub trait Shows {
-    fn print_event(&self, rt: &impl Print, event: &Listed) -> io::Result<()>;
+    // The text that is shown.
+    ghost shown: { Self → Listed → List ℕ };
+
+    // Writes it.
+    fn show<W: Write>(&self, out: &mut W, event: &Listed) -> io::Result<()>
+        ensures { OnOk result (Appends (W.contents out.old) (W.contents out.new) (shown self.now event.now)) };
+}
+
+// Writes a line.
+pub fn write_line<W: Write, T: TextLine>(out: &mut W, line: &T) -> io::Result<()>
+    ensures { OnOk result (Appends (W.contents out.old) (W.contents out.new) (T.text line.now)) }
+{
+    let mut text = [0u8; ROOM];
+    let size = line.put(&mut text);
+    out.write_all(&text[..size])
 }
 
 // The whole program.
 pub fn run(rt: &(impl Input + Print), shows: &impl Shows) -> io::Result<()> {
     let mut buffer = [0u8; BUFFER];
     let n = input::read_full(&mut rt.reader(), &mut buffer)?;
+    let mut out = io::writer(rt);
     if n > MOST_BYTES {
-        return rt.print(listed::list_too_long());
+        return write_line(&mut out, &listed::list_too_long());
     }
-    print_input(rt, shows, &buffer[..n])
+    write_input(&mut out, shows, &buffer[..n])
 }
 
 // The table, and then the events from where they start.
-fn print_input(rt: &impl Print, shows: &impl Shows, bytes: &[u8]) -> io::Result<()>
+fn write_input(out: &mut impl Write, shows: &impl Shows, bytes: &[u8]) -> io::Result<()>
     requires { length bytes.now ≤ most_bytes }
 {
     let start = listed::events_start(bytes);
     match reading::read_table(&bytes[..start]) {
-        Ok(table) => print_events(rt, shows, System::fresh(table), bytes, start),
+        Ok(table) => write_events(out, shows, System::fresh(table), bytes, start),
         Err(refused) => {
             let number = u8::from(refused.refusal);
-            rt.print(listed::list_table_refused(number, refused.place as u32))
+            write_line(
+                out,
+                &listed::list_table_refused(number, refused.place as u32),
+            )
         }
     }
 }
 
 // What each event from a place on shows, and why they stop before the end.
-fn print_events(
-    rt: &impl Print,
+fn write_events(
+    out: &mut impl Write,
     shows: &impl Shows,
     mut system: System,
     bytes: &[u8],
@@ -57,12 +79,14 @@ fn print_events(
     while at < bytes.len() {
         match listed::list_event(system, position, &bytes[at..]) {
             Ok(event) => {
-                shows.print_event(rt, &event)?;
+                shows.show(out, &event)?;
                 system = event.system;
                 at += event.size;
                 position += 1;
             }
-            Err(refusal) => return rt.print(listed::list_stopped(u8::from(refusal), at as u32)),
+            Err(refusal) => {
+                return write_line(out, &listed::list_stopped(u8::from(refusal), at as u32));
+            }
         }
     }
     Ok(())

@@ -17,6 +17,7 @@ pub fn sum_of(kept: u32, transactions: u32) -> u32
 }
 
 // Whether core c is stopped: no occupant, the lock held, and its kept count at least the holder's budget.
+// The occupants and the holder are handed in: this crate knows no lock.
 #[tactic(auto, unfolding(crate::specs::Allowance::stopped_at, crate::specs::Allowance::holder_budget))]
 pub fn is_stopped(
     occupant: &[u8; 32],

@@ -5,6 +5,7 @@ ghost use Rattle.state.specs.Rules.{state_ok, count_ok, states_ok, counts_ok};
 use lists::{at, every_place};
 
 // Whether s may be the state at place t, where there are n threads.
+// Two rules, and no generic one: each is a clause of "Well formed".
 #[tactic(auto, unfolding(crate::specs::Rules::state_ok))]
 fn state_ok(s: u8, t: u8, n: u8) -> bool
     ensures { result ≡ state_ok n t s }

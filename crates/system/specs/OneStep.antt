@@ -1,4 +1,5 @@
--- The promise of `SystemMut::step` allows one answer, and one value of each part that it is lent.
+-- The promise of an event in place allows one answer, and one value of each part: `one_step`, of parts that stand each by itself, and
+-- `one_lent_step`, of those that `SystemMut::step` is lent.
 use Rattle.std.specs.Prelude.{ℕ, List, ◌≡◌, refl}
 use Rattle.std.proofs.Common.{sym}
 use Rattle.std.proofs.Math.Path.{ap}
@@ -13,7 +14,11 @@ use Rattle.system.specs.declared.System.{System}
 use Rattle.system.specs.declared.events.Reply.{Reply}
 use Rattle.system.specs.declared.parts.SystemMut.{SystemMut}
 use Rattle.system.specs.Events.{step_of, reply_of}
-use Rattle.system.specs.Parts.{system_now, system_of}
+use Rattle.system.specs.Parts.{Stepped, stepped_of, system_now, system_of}
+
+-- what an event does in place: its step leads from the system that all the parts make up before to that after, and to the answer
+abbrev pub StepInPlace : System → Event → System → Stepped → Type 0
+StepInPlace s event s' r = step_of s event ≡ reply_of s' r.answer
 
 -- the parts that an event may change, of two systems after it
 pub record SameParts (state number served skipped job : List ℕ) (held : Held) (occupant kept : List ℕ)
@@ -45,16 +50,30 @@ module _ (sizes : Sizes) (priority budget gang core : List ℕ) {state number se
     kept_counts = ap (λ (s : System). s.kept) e;
   }
 
--- what an event does in place: its step leads from the system of the parts before to that of the parts after, and to the answer
-abbrev pub StepInPlace : SystemMut → Event → SystemMut → Answer → Type 0
-StepInPlace before event after a = step_of (system_now before) event ≡ reply_of (system_now after) a
+  -- two answers that the promise allows are one, and so is every part after the event
+  pub one_step : (before : System) (event : Event) (r q : Stepped)
+      → StepInPlace before event (system_of sizes priority budget gang core state number served skipped job r.held occupant kept) r
+      → StepInPlace before event (system_of sizes priority budget gang core state' number' served' skipped' job' q.held occupant' kept') q
+      → (r ≡ q) × SameParts state number served skipped job r.held occupant kept state' number' served' skipped' job' q.held occupant' kept'
+  one_step before event r q e f = (λ i. stepped_of (parts.held_same i) (same i).answer, parts)
+    where
+      same : reply_of (system_of sizes priority budget gang core state number served skipped job r.held occupant kept) r.answer
+          ≡ reply_of (system_of sizes priority budget gang core state' number' served' skipped' job' q.held occupant' kept') q.answer
+      same = one_answer (step_of before event) (sym e) (sym f)
+
+      parts : SameParts state number served skipped job r.held occupant kept state' number' served' skipped' job' q.held occupant' kept'
+      parts = one_parts (ap (λ (x : Reply). x.system) same)
+
+-- the same of parts that are lent: the step leads from the system of the parts before to that of the parts after, and to the answer
+abbrev pub LentStepInPlace : SystemMut → Event → SystemMut → Answer → Type 0
+LentStepInPlace before event after a = step_of (system_now before) event ≡ reply_of (system_now after) a
 
 -- two answers that the promise allows are one, and so is every part after the event
-pub one_step : (before r q : SystemMut) (event : Event) (a b : Answer)
-    → StepInPlace before event r a → StepInPlace before event q b
+pub one_lent_step : (before r q : SystemMut) (event : Event) (a b : Answer)
+    → LentStepInPlace before event r a → LentStepInPlace before event q b
     → (a ≡ b) × SameParts r.state.now r.number.now r.served.now r.skipped.now r.job.now r.held r.occupant.now
     r.kept.now q.state.now q.number.now q.served.now q.skipped.now q.job.now q.held q.occupant.now q.kept.now
-one_step before r q event a b e f = (
+one_lent_step before r q event a b e f = (
   ap (λ (x : Reply). x.answer) same,
   record {
     states = ap (λ (x : Reply). x.system.state) same;

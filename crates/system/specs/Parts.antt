@@ -8,6 +8,7 @@ use Rattle.lock.specs.Serve.{lock_of}
 use Rattle.table.specs.declared.Sizes.{Sizes}
 use Rattle.table.specs.Rules.{table_of}
 use Rattle.table.specs.Seen.{table_seen}
+use Rattle.wire.specs.declared.answer.Answer.{Answer}
 use Rattle.system.specs.declared.System.{System}
 use Rattle.system.specs.declared.parts.SystemMut.{SystemMut}
 use Rattle.system.specs.declared.parts.SystemRef.{SystemRef}
@@ -53,3 +54,11 @@ system_of sizes priority budget gang core state number served skipped job held o
   lock = lock_of held occupant;
   kept = kept;
 }
+
+-- what an event hands back: the holder and the core sets after it, and its answer
+pub record Stepped : Type 0 where
+  pub held : Held
+  pub answer : Answer
+
+abbrev pub stepped_of : Held → Answer → Stepped
+stepped_of h a = record { held = h; answer = a }

@@ -11,12 +11,13 @@ use wire::event::Event;
 use wire::refusal::Refusal;
 
 // What an event comes to, beside the system as it is then.
-#[derive(Clone, Copy)]
+#[derive(Clone, Copy, PartialEq, Eq, Debug)]
 pub struct Reply {
     pub system: System,
     pub answer: Answer,
 }
 
+// Each event is a method of its own with mut self, as document 01 has it; what they share is checked_step.
 #[tactic(auto, unfolding(crate::specs::Events::step_of, crate::specs::Events::checked))]
 impl System {
     // RELEASE gang g.

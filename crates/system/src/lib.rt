@@ -21,7 +21,7 @@ pub use events::Reply;
 pub use parts::{SystemMut, SystemRef};
 
 #[repr(C)]
-#[derive(Clone, Copy)]
+#[derive(Clone, Copy, PartialEq, Eq, Debug)]
 pub struct System {
     pub table: Table,
     // Each thread's state: finished, ready or waiting.

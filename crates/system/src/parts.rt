@@ -15,6 +15,7 @@ pub struct SystemRef<'a> {
 
 // A system whose parts are lent for an event to change. The holder and the core sets are four numbers, taken and handed back.
 // The lists of the ledger and of the lock stand here, and not in a struct each: what is lent two structs deep comes back with no proof.
+// That each reference stays where it was is a clause of each method: it is said of before and after, which no invariant of a type speaks of.
 #[derive(Drop)]
 pub struct SystemMut<'a> {
     pub table: TableRef<'a>,

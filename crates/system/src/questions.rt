@@ -64,6 +64,7 @@ impl System {
     }
 
     // The number of gang g's last release.
+    // Each of the four questions about the ledger is a call of the C interface.
     pub fn release_number(&self, g: u8) -> Result<u32, Refusal>
         ensures { result ≡ (number_found self.now g).finding }
     {

@@ -28,7 +28,7 @@ pub const WAITING: u8 = 2;
 
 // How many cores, gangs and threads there are.
 #[repr(C)]
-#[derive(Clone, Copy)]
+#[derive(Clone, Copy, PartialEq, Eq, Debug)]
 pub struct Sizes {
     pub cores: u8,
     pub gangs: u8,
@@ -36,8 +36,9 @@ pub struct Sizes {
 }
 
 // Each gang's priority and budget, and each thread's gang and the core that it is pinned to.
+// Lists, and not records: the layout is that of gjalvorn_table in the C interface.
 #[repr(C)]
-#[derive(Clone, Copy)]
+#[derive(Clone, Copy, PartialEq, Eq, Debug)]
 pub struct Table {
     pub sizes: Sizes,
     pub priority: [u8; 32],

@@ -17,6 +17,8 @@ impl<'a> TableRef<'a> {
     }
 
     // Core c's first ready thread, or NONE.
+    // The loop counts places and goes over no list: a table may claim more threads than there are places, and past the last `at` gives an unused one.
+    // NONE and no Option: it is stored as an occupant, which the C interface has as 255 for none.
     #[tactic(auto, using(crate::proofs::Turns::first_so_far), unfolding(crate::specs::Order::first_ready, pick::specs::Pick::pick_below))]
     pub fn first_ready(self, state: &[u8; 128], c: u8) -> u8
         ensures { result
@@ -56,6 +58,7 @@ impl<'a> TableRef<'a> {
     }
 
     // The first of best, a ready thread of core c or NONE, and thread t.
+    // NONE and no Option: it is stored as an occupant, which the C interface has as 255 for none.
     #[tactic(auto, unfolding(pick::specs::Pick::pick_with))]
     fn first_with(self, state: &[u8; 128], c: u8, best: u8, t: u8) -> u8
         ensures { result ≡ pick_with (stands_at state.now self.entry.core.now c) (before_by self.entry.gang.now self.entry.priority.now) best t }

@@ -1,7 +1,7 @@
 // The table rules, each tested in one pass.
 ghost use Rattle.std.specs.Prelude.{◌≡◌};
 ghost use Rattle.table.specs.Occurs.{Marked};
-ghost use Rattle.table.specs.Rules.{within, sizes_ok, gang_place, gangs_ok, thread_place, threads_ok, taken, distinct, manned, table_ok};
+ghost use Rattle.table.specs.Rules.{sizes_ok, gang_place, gangs_ok, thread_place, threads_ok, taken, distinct, manned, table_ok};
 ghost use Rattle.table.specs.Seen.{table_seen};
 
 use crate::{MAX_BUDGET, MAX_CORES, MAX_GANGS, MAX_THREADS, Sizes, TOP_PRIORITY, TableRef};
@@ -9,7 +9,7 @@ use lists::{at, every_place};
 
 impl Sizes {
     // With no core there is nothing; else there are cores and gangs, and no more of anything than there is room for.
-    #[tactic(auto, unfolding(crate::specs::Rules::sizes_ok))]
+    #[tactic(auto, unfolding(crate::specs::Rules::sizes_ok, crate::specs::Rules::within))]
     fn ok(self) -> bool
         ensures { result ≡ sizes_ok self }
     {
@@ -19,7 +19,7 @@ impl Sizes {
         if self.cores > MAX_CORES {
             return false;
         }
-        within(1, self.gangs, MAX_GANGS) && self.threads <= MAX_THREADS
+        (1..=MAX_GANGS).contains(&self.gangs) && self.threads <= MAX_THREADS
     }
 }
 
@@ -33,6 +33,7 @@ impl<'a> TableRef<'a> {
     }
 
     // Whether some gang has priority p.
+    // The loop counts places and goes over no list: a table may claim more gangs than there are places, and past the last `at` gives an unused one.
     #[tactic(auto, using(crate::proofs::Turns::taken_so_far))]
     pub fn priority_taken(self, p: u8) -> bool
         ensures { result ≡ taken self.entry.priority.now self.entry.sizes.gangs p }
@@ -63,7 +64,7 @@ impl<'a> TableRef<'a> {
     }
 
     // A gang's priority and budget are in range, and an unused place is zero.
-    #[tactic(auto, unfolding(crate::specs::Rules::gang_ok))]
+    #[tactic(auto, unfolding(crate::specs::Rules::gang_ok, crate::specs::Rules::within))]
     fn gang_ok(self, g: u8) -> bool
         ensures { result ≡ gang_place self.entry.priority.now self.entry.budget.now self.entry.sizes.gangs g }
     {
@@ -76,7 +77,7 @@ impl<'a> TableRef<'a> {
         let priority = at(priority, g);
         let budget = at(budget, g);
         if g < sizes.gangs {
-            return within(1, priority, TOP_PRIORITY) && budget <= MAX_BUDGET;
+            return (1..=TOP_PRIORITY).contains(&priority) && budget <= MAX_BUDGET;
         }
         priority == 0 && budget == 0
     }
@@ -108,6 +109,8 @@ impl<'a> TableRef<'a> {
     }
 
     // No two gangs have one priority: each is marked as it is met.
+    // The loop counts places and goes over no list: a table may claim more gangs than there are places, and past the last `at` gives an unused one.
+    // Marks are numbers: Marked is said of such a list.
     #[tactic(auto, using(ranges::specs::laws::Pass::passed_all), unfolding(crate::specs::Rules::distinct))]
     fn distinct(self) -> bool
         ensures { result ≡ distinct self.entry.priority.now self.entry.sizes.gangs }
@@ -124,6 +127,8 @@ impl<'a> TableRef<'a> {
     }
 
     // A mark for each gang number: 1 where one of the threads is that gang's.
+    // The loop counts places and goes over no list: a table may claim more threads than there are places, and past the last `at` gives an unused one.
+    // Marks are numbers: Marked is said of such a list.
     #[tactic(auto, using(ranges::specs::laws::Pass::upto_all, crate::specs::laws::Occurs::marked_more))]
     fn gangs_of(self) -> [u8; 256]
         ensures { Marked self.entry.gang.now self.entry.sizes.threads result }
@@ -136,11 +141,4 @@ impl<'a> TableRef<'a> {
         }
         seen
     }
-}
-
-#[tactic(auto, unfolding(crate::specs::Rules::within))]
-fn within(low: u8, x: u8, high: u8) -> bool
-    ensures { result ≡ within low x high }
-{
-    low <= x && x <= high
 }

@@ -5,7 +5,8 @@ ghost use Rattle.wire.specs.Answer.{answer_refusal, answer_value, answer_number,
 use crate::kinds::{ANSWER, length_of};
 use crate::refusal::Refusal;
 
-// What an event comes to. Refused is one of its cases and no Err: it is the whole content of an ANSWER record too.
+// What an event comes to.
+// A refused event is answered like any other, in a record of its own, and a batch goes on after it: so Refused is a case, and no Err.
 #[derive(Clone, Copy, PartialEq, Eq, Debug)]
 pub enum Answer {
     Refused(Refusal),
@@ -22,6 +23,7 @@ pub enum Answer {
 }
 
 // The fields of an ANSWER record.
+// Numbers, as the record has them: gjalvorn_answer of the C interface.
 #[repr(C)]
 #[derive(Clone, Copy, PartialEq, Eq, Debug)]
 pub struct AnswerRecord {
@@ -39,6 +41,7 @@ pub const ANSWER_SIZE: usize = 18;
 const YES: u8 = 1;
 
 // The refusal number of an answer, 0 where the event was accepted.
+// Three calls, a sentence of document 01 each.
 pub fn answer_refusal(answer: Answer) -> u8
     ensures { result ≡ answer_refusal answer }
 {

@@ -49,6 +49,7 @@ impl OfRecord for Event {
 }
 
 // The kind of an event's record.
+// A call by its name, and no From: a u16 made of an event does not say that it is the kind.
 pub fn kind_of(event: Event) -> u16
     ensures { result ≡ kind_of event }
 {

@@ -2,7 +2,7 @@
 ghost use Rattle.std.specs.Prelude.{◌≡◌};
 ghost use Rattle.wire.specs.Kinds.{lengths, fits_in, length_in, in_stream};
 
-// Numbers and no enum: in_stream, length_fits and length_of answer for every u16.
+// Numbers and no enum: in_stream, length_fits and length_of answer for every u16, and the record question tells the number (Question).
 pub const CORES: u16 = 1;
 
 pub const GANG: u16 = 2;

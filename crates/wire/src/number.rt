@@ -10,6 +10,7 @@ pub fn byte_at(s: &[u8], at: usize) -> u8
 }
 
 // The u16 at a place.
+// Two calls: the library has from_le_bytes for each type by itself.
 pub fn u16_at(s: &[u8], at: usize) -> u16
     ensures { result ≡ le16 s.now at }
 {

@@ -57,20 +57,22 @@ pub struct RecordTold {
 }
 
 // The numbers of what the question finds.
-pub fn record_told(seen: Result<Record, Refusal>) -> RecordTold
-    ensures { result ≡ record_told seen }
-{
-    match seen {
-        Ok(Record { kind, next }) => RecordTold {
-            refusal: 0,
-            kind,
-            next,
-        },
-        Err(refusal) => RecordTold {
-            refusal: u8::from(refusal),
-            kind: 0,
-            next: 0,
-        },
+impl From<Result<Record, Refusal>> for RecordTold {
+    ghost from_gives = { λ seen told. told ≡ record_told seen };
+
+    fn from(seen: Result<Record, Refusal>) -> RecordTold {
+        match seen {
+            Ok(Record { kind, next }) => RecordTold {
+                refusal: 0,
+                kind,
+                next,
+            },
+            Err(refusal) => RecordTold {
+                refusal: u8::from(refusal),
+                kind: 0,
+                next: 0,
+            },
+        }
     }
 }
 

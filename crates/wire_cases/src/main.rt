@@ -6,6 +6,7 @@ use std::io;
 use std::io::Write;
 use wire::kinds::Stream;
 use wire::kinds::Stream::{Answers, Events, Table};
+use wire::record::{RecordTold, payload_at, record_at};
 
 const LARGEST: usize = 18446744073709551615;
 
@@ -27,13 +28,13 @@ fn show_bytes(out: &mut impl Write, s: &[u8]) -> io::Result<()> {
 // A case's line.
 fn show(out: &mut impl Write, case: Case<'_>) -> io::Result<()> {
     let Case(name, stream, place, bytes) = case;
-    let told = wire::record::record_told(wire::record::record_at(stream, bytes, place));
+    let told = RecordTold::from(record_at(stream, bytes, place));
     write!(
         out,
         "{name}: {} {} {} [",
         told.refusal, told.kind, told.next
     )?;
-    show_bytes(out, wire::record::payload_at(stream, bytes, place))?;
+    show_bytes(out, payload_at(stream, bytes, place))?;
     writeln!(out, "]")
 }
 

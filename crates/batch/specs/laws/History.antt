@@ -1,8 +1,6 @@
 -- Laws of `History`.
-use Prim.Native.Nat.{ℕ, zero, suc, ◌<◌}
-use Rattle.std.specs.Prelude.{◌≡◌, length, get_or, take}
+use Rattle.std.specs.Prelude.{ℕ, zero, suc, ◌<◌, ◌≡◌, List, [], ◌∷◌, length, get_or, take}
 use Rattle.std.proofs.Math.Path.{refl, ap}
-use mathlib.Core.List.{List, [], ◌∷◌}
 use Rattle.std.proofs.Common.{arith}
 use Rattle.system.specs.declared.System.{System}
 use Rattle.system.specs.declared.events.Reply.{Reply}

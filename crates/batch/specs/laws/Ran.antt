@@ -1,6 +1,5 @@
 -- What a run comes to, as a case to take apart: document 01's "It stops at 1, 2, 3, 13 or the end", and else one answer and a run on what is left.
-use Prim.Native.Nat.{ℕ, ◌-◌, ◌≤◌, ◌<◌}
-use Rattle.std.specs.Prelude.{◌≡◌, List, length, drop}
+use Rattle.std.specs.Prelude.{ℕ, ◌-◌, ◌≤◌, ◌<◌, ◌≡◌, List, length, drop}
 use Rattle.system.specs.declared.System.{System}
 use Rattle.system.specs.declared.events.Reply.{Reply}
 use Rattle.wire.specs.Answer.{answer_size}

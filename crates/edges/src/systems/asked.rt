@@ -16,14 +16,11 @@ fn one_left() -> System {
 }
 
 fn system_of(n: u8) -> System {
-    if n == EMPTY {
-        return System::empty();
+    match n {
+        EMPTY => System::empty(),
+        ONE_LEFT => one_left(),
+        _ => one_left().release(0).system,
     }
-    let s = one_left();
-    if n == ONE_LEFT {
-        return s;
-    }
-    s.release(0).system
 }
 
 // An event by its kind, on gang, thread or core 0.
@@ -51,6 +48,7 @@ fn event_on(rt: &impl Print, s: System, kind: u16) -> io::Result<()> {
 }
 
 // A question in the order of document 01, about gang or core 0.
+// The number of the case's text: an enum would be read from it by the same match.
 fn found(s: &System, question: u8) -> Result<u32, Refusal> {
     match question {
         1 => s.occupant(0),
@@ -78,7 +76,7 @@ pub(crate) fn case(rt: &impl Print, name: &[u8], does: u8, what: &[u8]) -> io::R
     let n = byte(what, 1);
     crate::show::name(rt, name)?;
     if does == b'a' {
-        event_on(rt, s, n as u16)
+        event_on(rt, s, u16::from(n))
     } else {
         question_of(rt, &s, n)
     }

@@ -39,11 +39,11 @@ fn worked_table() -> Table {
 // Gang 0 is released and core 0 served: gang 0 holds the lock, core 0 is locked, core 1 owes.
 fn started() -> System {
     let released = System::fresh(worked_table()).release(0);
-    let served = released.system.serve(0);
-    served.system
+    released.system.serve(0).system
 }
 
 // A gang, its priority and its budget.
+// Two functions: a gang's second list is of words, a thread's of bytes.
 fn gang(table: &mut Table, what: &[u8]) {
     let g = (number(what, 0) % PLACES) as u8;
     put(&mut table.priority, g, byte(what, 1));
@@ -80,6 +80,7 @@ fn lock(lock: &mut Lock, what: &[u8]) {
 }
 
 // The system of a case, by the letter of what it changes; no such letter: the empty system.
+// The letter of the case's text: an enum would be read from it by the same match.
 pub(crate) fn system_of(does: u8, what: &[u8]) -> System {
     let mut s = started();
     match does {

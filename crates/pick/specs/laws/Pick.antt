@@ -1,10 +1,9 @@
 -- What is picked is the first, nothing else is, and it depends on which numbers are wanted alone; one turn of a loop that picks, and its branches.
-use Prim.Native.Nat.{ℕ, zero, suc, ◌+◌, ◌<◌, ◌≤◌}
-use Rattle.std.specs.Prelude.{Bool, true, false, cond, ◌≡◌, eqb}
+use Rattle.std.specs.Prelude.{ℕ, zero, suc, ◌+◌, ◌<◌, ◌≤◌, Bool, true, false, cond, ◌≡◌, eqb}
 use Rattle.std.proofs.Math.Path.{refl}
-use Rattle.std.proofs.Common.{sym, ap, ◌∙◌, add-one, arith}
+use Rattle.std.proofs.Common.{sym, ap, ◌∙◌, add-one, arith, eq-eqb, ne_eqb, eqb-true}
 use Rattle.std.proofs.Math.Decide.{ℕ_discrete}
-use borrow.Author.Tests.{eq-eqb, ne_eqb, eqb-true, eqb-false}
+use borrow.Author.Tests.{eqb-false}
 use Rattle.ranges.specs.laws.Logic.{clash, last-or-below}
 use Rattle.pick.specs.Pick.{pick_with, pick_below}
 

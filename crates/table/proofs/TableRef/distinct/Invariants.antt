@@ -6,4 +6,5 @@ use Rattle.table.proofs.TableRef.distinct.Given as goal
 
 abbrev pub invariant-loop-g : goal.invariant-loop-g
 invariant-loop-g l =
-    Passed l.self.sizes.gangs (λ h. not (occurs l.self.priority.now h (get_or l.self.priority.now h 0))) l.g l.ok × Marked l.self.priority.now l.g l.seen
+    Passed l.self.sizes.gangs (λ h. not (occurs l.self.priority.now h (get_or l.self.priority.now h 0))) l.g l.ok
+    × Marked l.self.priority.now l.g l.seen
