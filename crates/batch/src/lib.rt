@@ -34,7 +34,7 @@ pub fn batch(mut system: System, events: &[u8], out: &mut [u8]) -> Batched
     told(system, turns)
 }
 
-// What the turns come to, beside the system after them.
+// What the turns come to, beside the system after them. A call and no From: it puts several values together.
 fn told(system: System, turns: Turns) -> Batched
     ensures { result ≡ batched_with system turns }
 {

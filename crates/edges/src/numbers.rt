@@ -43,6 +43,7 @@ pub(crate) fn bytes(text: &[u8], out: &mut [u8]) -> usize
         .split(|b| !b.is_ascii_digit())
         .filter(|digits| !digits.is_empty());
     for (place, digits) in out.iter_mut().zip(numbers) {
+        // `as` must lose nothing: so the remainder.
         *place = (value(digits) % 256) as u8;
     }
     count(text).min(out.len())

@@ -51,7 +51,7 @@ impl Ledger {
     }
 }
 
-// A ledger's lists, lent for reading.
+// A ledger's lists, lent for reading. Copied only: nothing compares or shows it.
 #[derive(Clone, Copy)]
 pub struct LedgerRef<'a> {
     pub number: &'a [u32; 32],
@@ -131,7 +131,7 @@ fn raised(n: u32) -> u32
     n.saturating_add(1)
 }
 
-// What stands at one place of the ledger's lists.
+// What stands at one place of the ledger's lists. Copied only: nothing compares or shows it.
 #[derive(Clone, Copy)]
 struct Place {
     number: u32,

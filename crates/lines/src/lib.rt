@@ -28,7 +28,7 @@ const LETTERS: u8 = b'a' - 10;
 
 const TEN: u32 = 10;
 
-// How a number is written: in which base, and whether in no more digits than it takes.
+// How a number is written: in which base, and whether in no more digits than it takes. Copied only: nothing compares or shows it.
 #[derive(Clone, Copy)]
 pub(crate) struct Digits {
     base: u32,
@@ -102,7 +102,7 @@ impl TextLine for Line {
     }
 }
 
-// The character of a digit below sixteen.
+// The character of a digit below sixteen. It and all that is put below stand byte by byte, and by no `write!`: TextLine says why.
 fn glyph(d: u32) -> u8
     requires { d < sixteen }
     ensures { result ≡ glyph_of d }

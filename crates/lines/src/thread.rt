@@ -33,7 +33,7 @@ fn put_which(out: &mut [u8], at: usize, which: u8) -> usize
     }
 }
 
-// What one line says of a thread: its position, the thread, words, and the thread or gang that they end with, 255 for none: a number, as it is printed.
+// What one line says of a thread: its position, the thread, words, and the thread or gang that they end with, 255 for none: as it is printed.
 #[derive(Clone, Copy, PartialEq, Eq, Debug)]
 pub struct ThreadLine<'a> {
     pub position: u32,

@@ -20,7 +20,7 @@ use wire::of_record::Next;
 use wire::record::{HEADER, Record, next, record_at};
 use wire::refusal::Refusal;
 
-// The lowest kind that starts the events.
+// The lowest kind that starts the events. A number: a bound on kinds, which are any u16 (wire's kinds).
 pub const FIRST_EVENT_KIND: u16 = 16;
 
 // Where a record's kind stands, after its length.
@@ -82,7 +82,7 @@ pub fn list_event(system: System, position: u32, left: &[u8]) -> Result<Listed, 
     })
 }
 
-// The line of an event's position, kind, answer and holder.
+// The line of an event's position, kind, answer and holder. A call and no From: it puts several values together.
 fn line_of(position: u32, kind: u16, answer: AnswerRecord, holder: u8) -> Line
     ensures { result ≡ line_with position kind answer holder }
 {

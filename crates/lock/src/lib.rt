@@ -94,6 +94,7 @@ impl Held {
 }
 
 // What the lock is held against: how many cores, threads and gangs there are, and each thread's core and gang.
+// Copied only: nothing compares or shows it.
 #[derive(Clone, Copy)]
 pub struct Pins<'a> {
     pub cores: u8,
@@ -103,7 +104,7 @@ pub struct Pins<'a> {
     pub gang: &'a [u8; 128],
 }
 
-// A lock whose occupants are lent for reading.
+// A lock whose occupants are lent for reading. Copied only: nothing compares or shows it.
 #[derive(Clone, Copy)]
 pub struct LockRef<'a> {
     pub held: Held,
@@ -111,6 +112,7 @@ pub struct LockRef<'a> {
 }
 
 // A core's first ready thread, or NONE, that thread's gang, and whether that gang is ahead of the holder: what step (c) goes by.
+// NONE and no Option, here and in admit: as in serve. Copied only: nothing compares or shows it.
 #[derive(Clone, Copy)]
 struct First {
     core: u8,

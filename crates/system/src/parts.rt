@@ -3,7 +3,7 @@ use ledger::LedgerRef;
 use lock::{Held, LockRef};
 use table::TableRef;
 
-// A system whose parts are lent to be looked at.
+// A system whose parts are lent to be looked at. Copied only: nothing compares or shows it.
 #[derive(Clone, Copy)]
 pub struct SystemRef<'a> {
     pub table: TableRef<'a>,

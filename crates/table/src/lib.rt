@@ -47,7 +47,7 @@ pub struct Table {
     pub core: [u8; 128],
 }
 
-// A table that is lent, wherever its parts lie: the sizes, and each list where it stands.
+// A table that is lent, wherever its parts lie: the sizes, and each list where it stands. Copied only: nothing compares or shows it.
 #[derive(Clone, Copy)]
 pub struct TableRef<'a> {
     pub sizes: Sizes,

@@ -41,7 +41,7 @@ pub const ANSWER_SIZE: usize = 18;
 const YES: u8 = 1;
 
 // The refusal number of an answer, 0 where the event was accepted.
-// Three calls, a sentence of document 01 each.
+// Three calls and no struct: each is public, with its own clause (answer_refusal, answer_value, answer_number).
 pub fn answer_refusal(answer: Answer) -> u8
     ensures { result ≡ answer_refusal answer }
 {

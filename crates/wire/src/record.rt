@@ -49,6 +49,7 @@ pub fn record_at(stream: Stream, s: &[u8], place: usize) -> Result<Record, Refus
 }
 
 // What the question finds, in document 01's numbers: refusal 0 with the kind and the next place, or the refusal with both 0.
+// Numbers and no Result: record_told is what document 01 tells.
 #[derive(Clone, Copy, PartialEq, Eq, Debug)]
 pub struct RecordTold {
     pub refusal: u8,

@@ -13,7 +13,7 @@ const LARGEST: usize = 18446744073709551615;
 // Two event records, one after the other.
 const TICK_AND_SERVE: &[u8] = b"\x02\x00\x16\x00\x03\x00\x14\x00\x01";
 
-// A case's name, its stream, the place that is asked about, and the stream's bytes.
+// A case's name, its stream, the place that is asked about, and the stream's bytes. Copied only: nothing compares or shows it.
 #[derive(Clone, Copy)]
 struct Case<'a>(&'a str, Stream, usize, &'a [u8]);
 
