@@ -16,7 +16,7 @@ pub(crate) fn put_words(out: &mut [u8], at: usize, words: &[u8], most: usize) ->
     requires { at + most ≤ length out.old }
     ensures { Put (take most words.now) most out.old out.new at result }
 {
-    let size = words.len().min(most);
+    let size = most.min(words.len());
     out[at..at + size].copy_from_slice(&words[..size]);
     at + size
 }
