@@ -2,16 +2,21 @@
 // A read or a write that fails ends the program with its error.
 #![tactic(auto)]
 
-ghost use Rattle.std.specs.Prelude.{◌≤◌, length, List, ℕ, OnOk};
+ghost use Rattle.std.specs.Prelude.{◌≡◌, ◌≤◌, length, List, ℕ, OnOk};
 ghost use Rattle.std.specs.Io.KnownBytes.{Appends};
+ghost use Rattle.wire.specs.Refusal.{number_of};
+ghost use Rattle.lines.specs.Message.{refusal_line_of};
+ghost use Rattle.listed.specs.Messages.{events_stopped};
 ghost use Rattle.listed.specs.Output.{most_bytes};
 ghost use Rattle.listed.specs.declared.Listed.{Listed};
 
-use lines::{ROOM, TextLine};
+use lines::{ROOM, RefusalLine, TextLine};
 use listed::{Listed, MOST_BYTES};
+use reading::SystemRead;
 use std::io;
 use std::io::Write;
 use system::System;
+use wire::refusal::Refusal;
 
 // One byte more than an input may have, to notice an input that is too long. No heap: a buffer of this size, and how much of it is filled.
 const BUFFER: usize = MOST_BYTES + 1;
@@ -51,15 +56,16 @@ fn write_input(out: &mut impl Write, shows: &impl Shows, bytes: &[u8]) -> io::Re
     requires { length bytes.now ≤ most_bytes }
 {
     let start = listed::events_start(bytes);
-    match reading::read_table(&bytes[..start]) {
-        Ok(table) => write_events(out, shows, System::fresh(table), bytes, start),
-        Err(refused) => {
-            let number = u8::from(refused.refusal);
-            write_line(
-                out,
-                &listed::list_table_refused(number, refused.place as u32),
-            )
-        }
+    match reading::read_system(&bytes[..start]) {
+        SystemRead {
+            number: 0,
+            system,
+            ..
+        } => write_events(out, shows, system, bytes, start),
+        SystemRead { number, place, .. } => write_line(
+            out,
+            &listed::list_table_refused(number, place as u32),
+        ),
     }
 }
 
@@ -84,10 +90,16 @@ fn write_events(
                 at += event.size;
                 position += 1;
             }
-            Err(refusal) => {
-                return write_line(out, &listed::list_stopped(u8::from(refusal), at as u32));
-            }
+            Err(refusal) => return write_line(out, &stopped_line(refusal, at)),
         }
     }
     Ok(())
+}
+
+// The line of events that stop at a refused record.
+fn stopped_line(refusal: Refusal, at: usize) -> RefusalLine<'static>
+    requires { at ≤ most_bytes }
+    ensures { refusal_line_of result.words.now result.number result.place ≡ events_stopped (number_of refusal) at }
+{
+    listed::list_stopped(u8::from(refusal), at as u32)
 }
