@@ -25,9 +25,9 @@ told Accepted b at = record { table = b; number = 0; place = at }
 told (Refused refusal) b at = record { table = empty_table; number = number_of refusal; place = at }
 
 -- what the reader gives of these bytes, told so
-abbrev pub told_of : List ℕ → Result Table TableRefused → Reading
-told_of s (Ok b) = told Accepted b (length s)
-told_of s (Err e) = told (Refused e.refusal) empty_table e.place
+abbrev pub reading_told : List ℕ → Result Table TableRefused → Reading
+reading_told s (Ok b) = told Accepted b (length s)
+reading_told s (Err e) = told (Refused e.refusal) empty_table e.place
 
 -- what a reader gives that reads into a table: b is the table then
 abbrev pub read_of : Table → Result Unit TableRefused → Result Table TableRefused

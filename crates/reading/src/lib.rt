@@ -3,7 +3,7 @@
 
 ghost use Rattle.std.specs.Prelude.{◌≡◌};
 ghost use Rattle.table.specs.Rules.{empty_table};
-ghost use Rattle.reading.specs.Reading.{default_budget, told_of, read_of, reading_of};
+ghost use Rattle.reading.specs.Reading.{default_budget, reading_told, read_of, reading_of};
 ghost use Rattle.reading.specs.SystemRead.{system_read};
 
 use system::System;
@@ -30,7 +30,7 @@ pub struct TableRefused {
 
 // Reads a whole table.
 pub fn read_table(bytes: &[u8]) -> Result<Table, TableRefused>
-    ensures { told_of bytes.now result ≡ reading_of default_budget bytes.now }
+    ensures { reading_told bytes.now result ≡ reading_of default_budget bytes.now }
 {
     let mut table = Table::empty();
     read_into(&mut table, DEFAULT_BUDGET, bytes)?;
@@ -71,15 +71,20 @@ pub fn read_system(bytes: &[u8]) -> SystemRead
 // The table is lent: one that comes back in the result is moved on its way, and misses the bar of speed for a small table.
 fn read_into(table: &mut Table, default: u32, bytes: &[u8]) -> Result<(), TableRefused>
     requires { table.old ≡ empty_table }
-    ensures { told_of bytes.now (read_of table.new result) ≡ reading_of default bytes.now }
+    ensures { reading_told bytes.now (read_of table.new result) ≡ reading_of default bytes.now }
 {
     let mut at: usize = 0;
     // No `for`: the next place is a whole record further, and what the record is says how long it is.
     while at < bytes.len() {
-        let here = |refusal| TableRefused { refusal, place: at };
-        let one = next::<TableRecord>(&bytes[at..]).map_err(here)?;
-        rules::take(table, default, one.found).map_err(here)?;
-        at += one.next;
+        // A match, and no second map_err: a record that is handed on in a result is moved at each.
+        match next::<TableRecord>(&bytes[at..]) {
+            Ok(one) => {
+                let taken = rules::take(table, default, one.found);
+                taken.map_err(|refusal| TableRefused { refusal, place: at })?;
+                at += one.next;
+            }
+            Err(refusal) => return Err(TableRefused { refusal, place: at }),
+        }
     }
     ending::ending(table).map_err(|refusal| TableRefused {
         refusal,

@@ -79,8 +79,18 @@ impl Table {
     pub fn lent(&self) -> TableRef<'_>
         ensures { table_seen result ≡ self.now }
     {
+        // One by one: as one value they are read back from memory at each record of a table that is being read.
+        let Sizes {
+            cores,
+            gangs,
+            threads,
+        } = self.sizes;
         TableRef {
-            sizes: self.sizes,
+            sizes: Sizes {
+                cores,
+                gangs,
+                threads,
+            },
             priority: &self.priority,
             budget: &self.budget,
             gang: &self.gang,

@@ -96,7 +96,8 @@ pub fn in_stream(stream: Stream, kind: u16) -> bool
 pub fn length_fits(kind: u16, len: u16) -> bool
     ensures { result ≡ fits_in kind len lengths }
 {
-    LENGTHS.iter().any(|p| p.kind == kind && p.len == len)
+    // Compared side by side: one after the other they become a table of jumps, which is slower.
+    LENGTHS.iter().any(|p| (p.kind == kind) & (p.len == len))
 }
 
 // The length that a writer gives this kind: the first one listed, or 0 where there is none.

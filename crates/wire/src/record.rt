@@ -21,7 +21,8 @@ pub struct Record {
     pub next: usize,
 }
 
-// The record question: what stands at a place, or why not.
+// The record question: what stands at a place, or why not. Put where it is asked: what it gives is then not moved for each record.
+#[inline(always)]
 #[tactic(auto, unfolding(crate::specs::Record::record_at))]
 pub fn record_at(stream: Stream, s: &[u8], place: usize) -> Result<Record, Refusal>
     ensures { result ≡ record_at stream s.now place }
