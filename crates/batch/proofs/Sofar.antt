@@ -12,7 +12,8 @@ use Rattle.wire.specs.NextEvent as found
 use Rattle.wire.specs.declared.event.Event.{Event}
 use Rattle.wire.specs.declared.refusal.Refusal.{Refusal}
 use Rattle.wire.specs.laws.Reader.{event_whole}
-use Rattle.batch.specs.Turn.{Run, Came, wrote, written, output_after, stopped_with, answered, turn_of, batched_with, turns_of, no_turns, end_number}
+use Rattle.batch.specs.Turn.{Run, Came, wrote, written, output_after, stopped_with, answered, turn_of, batched_with, turns_of, no_turns}
+use Rattle.batch.specs.Turn.{number_of_end}
 use Rattle.batch.specs.declared.Batched.{Batched}
 use Rattle.batch.specs.laws.Turn.{Turned, stops, answers, turn_way, stops_some, bytes_length}
 use Rattle.batch.specs.Batch.{and_then, batch_ends, run_of}
@@ -49,10 +50,10 @@ module _ {ev o : List ℕ} {total : Run} {s : System} {at w : ℕ} {out : List �
   kept = ap length f.holds ∙ output_length f.done o (omega (arith, f.writes, f.fits))
 
   -- where a run on the rest reads and writes nothing
-  halted : (end : Result Unit Refusal) → Ran step_of s (drop at ev) (length o - w) (stopped_with s (end_number end))
+  halted : (end : Result Unit Refusal) → Ran step_of s (drop at ev) (length o - w) (stopped_with s (number_of_end end))
       → Came total o out (batched_with s (turns_of at w end))
   halted end q =
-      let e = f.rest (stopped_with s (end_number end)) q ∙ then_stopped f.done s (end_number end) in
+      let e = f.rest (stopped_with s (number_of_end end)) q ∙ then_stopped f.done s (number_of_end end) in
       rw e (record { told = rw (f.reads, f.writes); output = f.holds })
 
   pub ends_here : length ev ≤ at → Came total o out (batched_with s (turns_of at w (Ok tt)))

@@ -49,13 +49,13 @@ abbrev pub stopped_with : System → ℕ → Run
 stopped_with s n = record { system = s; read = 0; answers = []; number = n }
 
 -- the number that turns end with: 0 at the end of the events
-abbrev pub end_number : Result Unit Refusal → ℕ
-end_number (Ok done) = 0
-end_number (Err refusal) = number_of refusal
+abbrev pub number_of_end : Result Unit Refusal → ℕ
+number_of_end (Ok done) = 0
+number_of_end (Err refusal) = number_of refusal
 
 -- what the turns come to, beside the system after them
 abbrev pub batched_with : System → Turns → Batched
-batched_with s t = record { system = s; read = t.read; written = t.written; number = end_number t.end }
+batched_with s t = record { system = s; read = t.read; written = t.written; number = number_of_end t.end }
 
 abbrev pub turns_of : (read written : ℕ) → Result Unit Refusal → Turns
 turns_of at w end = record { read = at; written = w; end = end }

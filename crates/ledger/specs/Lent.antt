@@ -13,8 +13,8 @@ abbrev pub ledger_now : LedgerMut → Ledger
 ledger_now l = record { number = l.number.now; served = l.served.now; skipped = l.skipped.now; job = l.job.now }
 
 -- each list is in the place it was
-abbrev pub SamePlaces : LedgerMut → LedgerMut → Type 0
-SamePlaces l m =
+abbrev pub SameLedgerPlaces : LedgerMut → LedgerMut → Type 0
+SameLedgerPlaces l m =
     (m.number.ghost_name ≡ l.number.ghost_name)
     × (m.served.ghost_name ≡ l.served.ghost_name)
     × (m.skipped.ghost_name ≡ l.skipped.ghost_name)

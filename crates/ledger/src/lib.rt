@@ -2,7 +2,7 @@
 #![tactic(auto)]
 
 ghost use Rattle.std.specs.Prelude.{◌≡◌, get_or, set};
-ghost use Rattle.ledger.specs.Lent.{ledger_seen, ledger_now, SamePlaces};
+ghost use Rattle.ledger.specs.Lent.{ledger_seen, ledger_now, SameLedgerPlaces};
 ghost use Rattle.ledger.specs.Releases.{raised, raised_at, empty_ledger, served_of, skipped_of};
 ghost use Rattle.ledger.specs.WellFormed.{counts_agree, all_zero, place_ok, ledger_ok};
 
@@ -95,7 +95,7 @@ impl<'a> LedgerMut<'a> {
     // Gang g's next release is served, and the job takes that number.
     pub fn serve_release(&mut self, g: u8)
         ensures served { ledger_now self.new ≡ served_of (ledger_now self.old) g }
-        ensures places { SamePlaces self.old self.new }
+        ensures places { SameLedgerPlaces self.old self.new }
     {
         let taken = raise(self.number, g);
         raise(self.served, g);
@@ -105,7 +105,7 @@ impl<'a> LedgerMut<'a> {
     // Gang g's next release is skipped: it takes its number all the same, and the job keeps its own.
     pub fn skip_release(&mut self, g: u8)
         ensures skipped { ledger_now self.new ≡ skipped_of (ledger_now self.old) g }
-        ensures places { SamePlaces self.old self.new }
+        ensures places { SameLedgerPlaces self.old self.new }
     {
         raise(self.number, g);
         raise(self.skipped, g);

@@ -54,9 +54,9 @@ event_fits l =
     let holder = some_size (dash ∷ []) l.holder (omega arith) in
     simp length-append (omega arith)
 
-pub thread_fits : (position thread : ℕ) (words : List ℕ) (which : ℕ) → length (thread_line_of position thread words which) ≤ room
+pub thread_line_fits : (position thread : ℕ) (words : List ℕ) (which : ℕ) → length (thread_line_of position thread words which) ≤ room
 unfolding thread_line_of
-thread_fits position thread words which =
+thread_line_fits position thread words which =
     let at = field_size ten true places32 position in
     let of = field_size ten true places8 thread in
     let said = words_size words in

@@ -16,8 +16,8 @@ abbrev pub lock_now : LockMut → Lock
 lock_now l = lock_of l.held l.occupant.now
 
 -- the occupants are in the place they were
-abbrev pub SamePlaces : LockMut → LockMut → Type 0
-SamePlaces l m = m.occupant.ghost_name ≡ l.occupant.ghost_name
+abbrev pub SameLockPlaces : LockMut → LockMut → Type 0
+SameLockPlaces l m = m.occupant.ghost_name ≡ l.occupant.ghost_name
 
 -- what a lock is held against, of lists lent for reading
 abbrev pub pins_seen : lent.Pins → Pins

@@ -1,11 +1,12 @@
--- A promise on `lock_of r o` or `lock_now l` allows one holder with its core sets, and one list of occupants: those of `Lock::held`,
--- `Held::owe`, `LockMut::serve` and `LockMut::owe`.
+-- A promise on `lock_of r o`, `lock_now l` or `lock_seen l` allows one holder with its core sets, and one list of occupants: those of `Lock::held`,
+-- `Held::owe`, `LockMut::serve`, `LockMut::owe` and `Lock::lent`.
 use Rattle.std.specs.Prelude.{ℕ, List, ◌≡◌}
 use Rattle.std.proofs.Common.{sym, ◌∙◌}
 use Rattle.lock.specs.declared.Held.{Held}
 use Rattle.lock.specs.declared.Lock.{Lock}
 use Rattle.lock.specs.declared.LockMut.{LockMut}
-use Rattle.lock.specs.Lent.{lock_now}
+use Rattle.lock.specs.declared.LockRef.{LockRef}
+use Rattle.lock.specs.Lent.{lock_now, lock_seen}
 use Rattle.lock.specs.Serve.{lock_of}
 
 -- a lock's holder and core sets
@@ -21,3 +22,6 @@ one_held d {r} {q} {o} {p} e f = (λ i. held_of (same i), λ i. (same i).occupan
 -- the same of occupants that are lent
 pub one_lent : (d : Lock) (l m : LockMut) → lock_now l ≡ d → lock_now m ≡ d → (l.held ≡ m.held) × (l.occupant.now ≡ m.occupant.now)
 one_lent d l m = one_held d
+
+pub one_lock_seen : (d : Lock) (l m : LockRef) → lock_seen l ≡ d → lock_seen m ≡ d → (l.held ≡ m.held) × (l.occupant.now ≡ m.occupant.now)
+one_lock_seen d l m = one_held d

@@ -3,7 +3,7 @@
 #![tactic(auto)]
 
 ghost use Rattle.std.specs.Prelude.{◌≡◌, ◌<◌, List, ℕ};
-ghost use Rattle.lock.specs.Lent.{lock_seen, lock_now, SamePlaces};
+ghost use Rattle.lock.specs.Lent.{lock_seen, lock_now, SameLockPlaces};
 ghost use Rattle.lock.specs.Serve.{free_lock, lock_of, owe_of, unmarked_of, vacated_of, freed_of, settled_of, left_of};
 ghost use Rattle.lock.specs.Serve.{locked_for, displaced_of, blocked_of, claimed_of, admitted_of, serve_of};
 
@@ -136,7 +136,7 @@ impl<'a> LockMut<'a> {
     #[tactic(auto, unfolding(crate::specs::Serve::serve_of, crate::specs::Serve::serve_by))]
     pub fn serve(&mut self, c: u8, t: u8, g: u8, ahead: bool)
         ensures served { lock_now self.new ≡ serve_of (lock_now self.old) c t g ahead }
-        ensures places { SamePlaces self.old self.new }
+        ensures places { SameLockPlaces self.old self.new }
     {
         if c < coreset::WIDTH {
             self.unmark(c);
@@ -153,7 +153,7 @@ impl<'a> LockMut<'a> {
     // Core c owes.
     pub fn owe(&mut self, c: u8)
         ensures owed { lock_now self.new ≡ owe_of (lock_now self.old) c }
-        ensures places { SamePlaces self.old self.new }
+        ensures places { SameLockPlaces self.old self.new }
     {
         self.held = self.held.owe(c);
     }
@@ -161,7 +161,7 @@ impl<'a> LockMut<'a> {
     // Step (a): c no longer owes and is no longer blocked.
     fn unmark(&mut self, c: u8)
         ensures unmarked { lock_now self.new ≡ unmarked_of (lock_now self.old) c }
-        ensures places { SamePlaces self.old self.new }
+        ensures places { SameLockPlaces self.old self.new }
     {
         self.held.owing = coreset::clear(self.held.owing, c);
         self.held.blocked = coreset::clear(self.held.blocked, c);
@@ -171,7 +171,7 @@ impl<'a> LockMut<'a> {
     #[tactic(auto, unfolding(crate::specs::Serve::left_of))]
     fn leave(&mut self, c: u8)
         ensures left { (t g : ℕ) → lock_now self.new ≡ left_of (lock_now self.old) c t g }
-        ensures places { SamePlaces self.old self.new }
+        ensures places { SameLockPlaces self.old self.new }
     {
         self.vacate(c);
         self.settle();
@@ -180,7 +180,7 @@ impl<'a> LockMut<'a> {
     // Step (b), for c itself: it is not locked, and has no occupant.
     fn vacate(&mut self, c: u8)
         ensures vacated { lock_now self.new ≡ vacated_of (lock_now self.old) c }
-        ensures places { SamePlaces self.old self.new }
+        ensures places { SameLockPlaces self.old self.new }
     {
         self.held.locked = coreset::clear(self.held.locked, c);
         put(self.occupant, c, coreset::NONE);
@@ -190,7 +190,7 @@ impl<'a> LockMut<'a> {
     #[tactic(auto, unfolding(crate::specs::Serve::settled_of))]
     fn settle(&mut self)
         ensures settled { lock_now self.new ≡ settled_of (lock_now self.old) }
-        ensures places { SamePlaces self.old self.new }
+        ensures places { SameLockPlaces self.old self.new }
     {
         if self.held.locked == 0 {
             self.free();
@@ -200,7 +200,7 @@ impl<'a> LockMut<'a> {
     // The lock is free, every blocked core owes and none is blocked.
     fn free(&mut self)
         ensures freed { lock_now self.new ≡ freed_of (lock_now self.old) }
-        ensures places { SamePlaces self.old self.new }
+        ensures places { SameLockPlaces self.old self.new }
     {
         self.held.holder = coreset::NONE;
         self.held.owing = self.held.owing | self.held.blocked;
@@ -211,7 +211,7 @@ impl<'a> LockMut<'a> {
     #[tactic(auto, unfolding(crate::specs::Serve::admitted_of))]
     fn admit(&mut self, first: First)
         ensures admitted { lock_now self.new ≡ admitted_of (lock_now self.old) first.core first.thread first.gang first.ahead }
-        ensures places { SamePlaces self.old self.new }
+        ensures places { SameLockPlaces self.old self.new }
     {
         if first.thread != coreset::NONE {
             self.claim(first);
@@ -222,7 +222,7 @@ impl<'a> LockMut<'a> {
     #[tactic(auto, unfolding(crate::specs::Serve::claimed_of))]
     fn claim(&mut self, first: First)
         ensures claimed { lock_now self.new ≡ claimed_of (lock_now self.old) first.core first.thread first.gang first.ahead }
-        ensures places { SamePlaces self.old self.new }
+        ensures places { SameLockPlaces self.old self.new }
     {
         if self.held.holder == coreset::NONE {
             self.lock_for(first);
@@ -240,7 +240,7 @@ impl<'a> LockMut<'a> {
     #[tactic(auto, unfolding(coreset::specs::Set::within_width))]
     fn lock_for(&mut self, first: First)
         ensures locked { lock_now self.new ≡ locked_for (lock_now self.old) first.core first.thread first.gang }
-        ensures places { SamePlaces self.old self.new }
+        ensures places { SameLockPlaces self.old self.new }
     {
         self.held.holder = first.gang;
         self.held.locked = coreset::set(self.held.locked, first.core);
@@ -250,7 +250,7 @@ impl<'a> LockMut<'a> {
     // Every locked core owes and is unlocked; its occupant stays until it is served.
     fn displace(&mut self)
         ensures displaced { lock_now self.new ≡ displaced_of (lock_now self.old) }
-        ensures places { SamePlaces self.old self.new }
+        ensures places { SameLockPlaces self.old self.new }
     {
         self.held.owing = self.held.owing | self.held.locked;
         self.held.locked = 0;
@@ -260,7 +260,7 @@ impl<'a> LockMut<'a> {
     #[tactic(auto, unfolding(coreset::specs::Set::within_width))]
     fn block(&mut self, first: First)
         ensures blocked { lock_now self.new ≡ blocked_of (lock_now self.old) first.core }
-        ensures places { SamePlaces self.old self.new }
+        ensures places { SameLockPlaces self.old self.new }
     {
         self.held.blocked = coreset::set(self.held.blocked, first.core);
     }

@@ -1,20 +1,25 @@
--- The promise of an event in place allows one answer, and one value of each part: `one_step`, of parts that stand each by itself, and
--- `one_lent_step`, of those that `SystemMut::step` is lent.
+-- The promise of an event in place allows one answer, and one value of each part: `one_step`, of parts that stand each by itself,
+-- `one_lent_step`, of those that `SystemMut::step` is lent, and `one_reply`, of the system that `System::step` changes. That of a system whose parts
+-- are lent to be looked at allows one value of each: `one_system_seen`.
 use Rattle.std.specs.Prelude.{ℕ, List, ◌≡◌, refl}
-use Rattle.std.proofs.Common.{sym}
+use Rattle.std.proofs.Common.{sym, ◌∙◌}
 use Rattle.std.proofs.Math.Path.{ap}
 use Rattle.lock.specs.declared.Held.{Held}
+use Rattle.ledger.specs.Lent.{ledger_seen}
+use Rattle.lock.specs.Lent.{lock_seen}
 use Rattle.lock.specs.OneHeld.{one_held}
 use Rattle.lock.specs.Serve.{lock_of}
 use Rattle.table.specs.declared.Sizes.{Sizes}
+use Rattle.table.specs.Seen.{table_seen}
 use Rattle.wire.specs.declared.answer.Answer.{Answer}
 use Rattle.wire.specs.declared.event.Event.{Event}
 use Rattle.wire.specs.Promise.{one_answer}
 use Rattle.system.specs.declared.System.{System}
 use Rattle.system.specs.declared.events.Reply.{Reply}
 use Rattle.system.specs.declared.parts.SystemMut.{SystemMut}
+use Rattle.system.specs.declared.parts.SystemRef.{SystemRef}
 use Rattle.system.specs.Events.{step_of, reply_of}
-use Rattle.system.specs.Parts.{Stepped, stepped_of, system_now, system_of}
+use Rattle.system.specs.Parts.{Stepped, stepped_of, system_now, system_of, system_seen}
 
 -- what an event does in place: its step leads from the system that all the parts make up before to that after, and to the answer
 abbrev pub StepInPlace : System → Event → System → Stepped → Type 0
@@ -90,3 +95,28 @@ one_lent_step before r q event a b e f = (
   where
     same : reply_of (system_now r) a ≡ reply_of (system_now q) b
     same = one_answer (step_of (system_now before) event) (sym e) (sym f)
+
+-- a system that is changed where it stands, and the answer
+pub one_reply : (d : Reply) (s t : System) (a b : Answer) → d ≡ reply_of s a → d ≡ reply_of t b → (s ≡ t) × (a ≡ b)
+one_reply d s t a b e f = (ap (λ (x : Reply). x.system) same, ap (λ (x : Reply). x.answer) same)
+  where
+    same : reply_of s a ≡ reply_of t b
+    same = one_answer d (sym e) (sym f)
+
+-- a system whose parts are lent to be looked at
+pub one_system_seen : (d : System) (s t : SystemRef) → system_seen s ≡ d → system_seen t ≡ d
+    → (table_seen s.table ≡ table_seen t.table)
+    × (s.state.now ≡ t.state.now)
+    × (ledger_seen s.ledger ≡ ledger_seen t.ledger)
+    × (lock_seen s.lock ≡ lock_seen t.lock)
+    × (s.kept.now ≡ t.kept.now)
+one_system_seen d s t e f = (
+  ap (λ (x : System). x.table) same,
+  ap (λ (x : System). x.state) same,
+  ap (λ (x : System). x.ledger) same,
+  ap (λ (x : System). x.lock) same,
+  ap (λ (x : System). x.kept) same,
+)
+  where
+    same : system_seen s ≡ system_seen t
+    same = e ∙ sym f

@@ -3,6 +3,7 @@ pub mod Order
 pub mod Occurs
 pub mod Rules
 pub mod Seen
+pub mod OneTable
 pub mod TableOk
 pub mod First
 pub mod laws
