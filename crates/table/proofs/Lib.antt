@@ -1,2 +1,3 @@
--- Sets of laws that the proofs of loops go by.
+-- Laws, and sets of laws, that the proofs of loops go by.
 pub mod Turns
+pub mod Past

@@ -3,7 +3,7 @@ ghost use Rattle.std.specs.Prelude.{◌≡◌};
 ghost use Rattle.pick.specs.Pick.{pick_with};
 ghost use Rattle.table.specs.Order.{ahead_by, before_by, stands_at, lineup, first_ready};
 
-use crate::{READY, TableRef};
+use crate::{MAX_THREADS, READY, TableRef};
 use lists::at;
 
 impl<'a> TableRef<'a> {
@@ -17,7 +17,8 @@ impl<'a> TableRef<'a> {
     }
 
     // Core c's first ready thread, or NONE.
-    // The loop counts places and goes over no list: a table may claim more threads than there are places, and past the last `at` gives an unused one.
+    // The loop counts places and goes over no list. A table may claim more threads than there are places: past the last none stands, and the
+    // loop ends there, so that no turn asks whether its thread has a place.
     // NONE and no Option: it is stored as an occupant, which the C interface has as 255 for none.
     #[tactic(auto, using(crate::proofs::Turns::first_so_far), unfolding(crate::specs::Order::first_ready, pick::specs::Pick::pick_below))]
     pub fn first_ready(self, state: &[u8; 128], c: u8) -> u8
@@ -25,7 +26,8 @@ impl<'a> TableRef<'a> {
             ≡ first_ready (lineup self.entry.sizes.threads state.now self.entry.core.now self.entry.gang.now self.entry.priority.now) c }
     {
         let mut best = coreset::NONE;
-        for t in 0..self.sizes.threads {
+        let threads = self.sizes.threads.min(MAX_THREADS);
+        for t in 0..threads {
             best = self.first_with(state, c, best, t);
         }
         best

@@ -7,4 +7,4 @@ use Rattle.table.proofs.TableRef.first_ready.Given as goal
 
 abbrev pub invariant-loop-t : goal.invariant-loop-t
 invariant-loop-t l =
-    Upto l.self.sizes.threads (λ n. l.best ≡ pick_below (stands_at l.state l.self.core.now l.c) (before_by l.self.gang.now l.self.priority.now) n) l.t
+    Upto l.threads (λ n. l.best ≡ pick_below (stands_at l.state l.self.core.now l.c) (before_by l.self.gang.now l.self.priority.now) n) l.t
